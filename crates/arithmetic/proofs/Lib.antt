@@ -1,0 +1,2 @@
+mod Wraps
+mod Stops

@@ -1,0 +1,6 @@
+mod Bytes
+mod Forms
+mod Prefixes
+mod Checks
+mod Steps
+pub mod Bounds

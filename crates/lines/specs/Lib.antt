@@ -1,0 +1,4 @@
+pub mod Form
+pub mod Reading
+pub mod Checking
+pub mod Readers

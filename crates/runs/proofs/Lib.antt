@@ -1,0 +1,10 @@
+pub mod Basics
+pub mod Cut
+pub mod Goes
+pub mod Laid
+pub mod Sound
+pub mod Stands
+pub mod Sim
+pub mod Whole
+pub mod Close
+pub mod Thrice

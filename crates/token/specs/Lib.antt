@@ -1,0 +1,6 @@
+pub mod Tokens
+pub mod Lexis
+pub mod Transducer
+pub mod Views
+pub mod Numbers
+pub mod Reading

@@ -1,0 +1,2 @@
+mod Paper
+mod Turns
