@@ -1,0 +1,13 @@
+pub mod Keys
+pub mod Lists
+pub mod Checks
+pub mod Stands
+pub mod Search
+pub mod Answer
+pub mod Cells
+pub mod Scans
+pub mod Fitting
+pub mod Naming
+pub mod Table
+pub mod Configs
+pub mod Passing

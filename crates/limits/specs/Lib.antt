@@ -1,0 +1,9 @@
+pub mod Uses
+pub mod Rules
+pub mod Refusals
+pub mod Symbols
+pub mod Programs
+pub mod States
+pub mod Pass
+pub mod Laws
+pub mod Samples
