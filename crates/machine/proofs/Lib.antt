@@ -1,0 +1,5 @@
+mod Arms
+mod Asked
+mod Fetched
+mod Others
+pub mod Turns
