@@ -1,2 +1,2 @@
-mod Wraps
-mod Stops
+pub mod Wraps
+pub mod Stops

@@ -1,0 +1,4 @@
+pub mod Images
+pub mod Runs
+pub mod Laws
+pub mod Samples
