@@ -1,0 +1,16 @@
+pub mod Drafted
+pub mod Works
+pub mod Sizes
+pub mod Image
+pub mod Controls
+pub mod Programs
+pub mod Stepping
+pub mod Labels
+pub mod Grows
+pub mod Places
+pub mod Waits
+pub mod Pasts
+pub mod Rooms
+pub mod Operands
+pub mod Cells
+pub mod Tables

@@ -1,0 +1,10 @@
+pub mod Draft
+pub mod Actions
+pub mod Table
+pub mod Control
+pub mod Growth
+pub mod Room
+pub mod Layouts
+pub mod Classes
+pub mod Laws
+pub mod Samples
