@@ -1,7 +1,7 @@
 // Sum, difference, product and quotient of words, written once for every arithmetic.
 // The exact result of two numbers of 32 bits fits 64 bits, so nothing is lost before it is fitted.
 ghost use Rattle.std.specs.Prelude.{◌≡◌};
-ghost use Rattle.arithmetic.specs.Words.{Words, sum as sum_of, difference as difference-of, product as product-of, quotient as quotient-of};
+ghost use Rattle.arithmetic.specs.Words.{Words, sum as sum_of, difference as difference_of, product as product_of, quotient as quotient_of};
 
 use super::Arithmetic;
 
@@ -23,20 +23,20 @@ pub fn sum<N: Arithmetic>(a: i32, b: i32) -> i32
 }
 
 pub fn difference<N: Arithmetic>(a: i32, b: i32) -> i32
-    ensures { result ≡ difference-of N.Arithmetic.words a b }
+    ensures { result ≡ difference_of N.Arithmetic.words a b }
 {
     settle::<N>(a as i64 - b as i64)
 }
 
 pub fn product<N: Arithmetic>(a: i32, b: i32) -> i32
-    ensures { result ≡ product-of N.Arithmetic.words a b }
+    ensures { result ≡ product_of N.Arithmetic.words a b }
 {
     settle::<N>(a as i64 * b as i64)
 }
 
 // Divided by 0, a number stays as it is.
 pub fn quotient<N: Arithmetic>(a: i32, b: i32) -> i32
-    ensures { result ≡ quotient-of N.Arithmetic.words a b }
+    ensures { result ≡ quotient_of N.Arithmetic.words a b }
 {
     if b == 0 {
         return a;

@@ -1,7 +1,7 @@
 // The assembler at work: words, expressions by two stacks, and the actions of the table.
 ghost use Rattle.std.specs.Prelude.{◌≡◌, ◌<◌, [], slice_set};
 ghost use Rattle.assembly.specs.Words.{packed};
-ghost use Rattle.assembly.specs.Plans.{words, work, planned, with_made, put_word, emit, emit_jump_lem, land_at, operating as operating-on, reduces, operation, reduced, binding, operate, push_mark_lem, push_cell, closed, loaded, end_expression_lem, aside, branching as branching-to, begin_then_lem, acted};
+ghost use Rattle.assembly.specs.Plans.{words, work, planned, with_made, put_word, emit, emit_jump_lem, land_at, operating as operating_on, reduces, operation, reduced, binding, operate, push_mark_lem, push_cell, closed, loaded, end_expression_lem, aside, branching as branching_to, begin_then_lem, acted};
 ghost use Rattle.assembler.specs.Views.{plan, rooms, Keeps, waiting_operator, Applies};
 
 use crate::assembler::Assembler;
@@ -29,7 +29,7 @@ fn write(code: &mut [u16], address: u16, word: u16)
 }
 
 fn operating(operator: Operator, cell: u16) -> Instruction
-    ensures { result ≡ operating-on operator cell }
+    ensures { result ≡ operating_on operator cell }
 {
     match operator {
         Operator::Plus => Instruction::Ada(cell),
@@ -40,7 +40,7 @@ fn operating(operator: Operator, cell: u16) -> Instruction
 }
 
 fn branching(relation: Relation, address: u16) -> Instruction
-    ensures { result ≡ branching-to relation address }
+    ensures { result ≡ branching_to relation address }
 {
     match relation {
         Relation::Greater => Instruction::Brn(address),

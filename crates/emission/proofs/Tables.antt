@@ -5,7 +5,7 @@ use Rattle.std.proofs.Common.{◌≡◌, ℕ, zero, suc, ◌-◌, ◌<◌, ◌�
 use Rattle.std.proofs.lemmas.List.{get_or-map, get_or_past}
 use Rattle.token.specs.Tokens.{Token, name, number, keyword, sign, other}
 use Rattle.token.specs.declared.kinds.Keyword.{Keyword}
-use Rattle.token.specs.declared.kinds.Keyword.TheVariants as keyword-of
+use Rattle.token.specs.declared.kinds.Keyword.TheVariants as keyword_of
 use Rattle.token.specs.declared.kinds.Sign.{Sign}
 use Rattle.token.specs.declared.kinds.Sign.TheVariants as sign_of
 use Rattle.emission.specs.Table.{State, Move, move}
@@ -175,16 +175,16 @@ any_other state.AfterOperand b = refl
 any_other state.Group b = refl
 
 keyword_class : (k : Keyword) → get_or samples (class (keyword k)) (other 0) ≡ keyword k
-keyword_class keyword-of.End = refl
-keyword_class keyword-of.Let = refl
-keyword_class keyword-of.Go = refl
-keyword_class keyword-of.To = refl
-keyword_class keyword-of.Of = refl
-keyword_class keyword-of.Read = refl
-keyword_class keyword-of.Print = refl
-keyword_class keyword-of.If = refl
-keyword_class keyword-of.Then = refl
-keyword_class keyword-of.Else = refl
+keyword_class keyword_of.End = refl
+keyword_class keyword_of.Let = refl
+keyword_class keyword_of.Go = refl
+keyword_class keyword_of.To = refl
+keyword_class keyword_of.Of = refl
+keyword_class keyword_of.Read = refl
+keyword_class keyword_of.Print = refl
+keyword_class keyword_of.If = refl
+keyword_class keyword_of.Then = refl
+keyword_class keyword_of.Else = refl
 
 sign_class : (r : Sign) → get_or samples (class (sign r)) (other 0) ≡ sign r
 sign_class sign_of.Semicolon = refl

@@ -1,5 +1,5 @@
 -- The classes of tokens that the table tells apart, and its moves as the code has them.
-use Rattle.token.specs.declared.kinds.Keyword.TheVariants as keyword-of
+use Rattle.token.specs.declared.kinds.Keyword.TheVariants as keyword_of
 use Rattle.token.specs.declared.kinds.Keyword.{Keyword}
 use Rattle.token.specs.declared.kinds.Sign.TheVariants as sign_of
 use Rattle.token.specs.declared.kinds.Sign.{Sign}
@@ -36,7 +36,7 @@ class_or_end (Some t) = class t
 -- a token of each class
 abbrev pub samples : List Token
 samples =
-    name [] ∷ number [] ∷ keyword keyword-of.End ∷ keyword keyword-of.Let ∷ keyword keyword-of.Go ∷ keyword keyword-of.To ∷ keyword keyword-of.Of ∷ keyword keyword-of.Read ∷ keyword keyword-of.Print ∷ keyword keyword-of.If ∷ keyword keyword-of.Then ∷ keyword keyword-of.Else ∷
+    name [] ∷ number [] ∷ keyword keyword_of.End ∷ keyword keyword_of.Let ∷ keyword keyword_of.Go ∷ keyword keyword_of.To ∷ keyword keyword_of.Of ∷ keyword keyword_of.Read ∷ keyword keyword_of.Print ∷ keyword keyword_of.If ∷ keyword keyword_of.Then ∷ keyword keyword_of.Else ∷
     sign sign_of.Semicolon ∷ sign sign_of.Colon ∷ sign sign_of.Becomes ∷ sign sign_of.Plus ∷ sign sign_of.Minus ∷ sign sign_of.Times ∷ sign sign_of.Over ∷ sign sign_of.Open ∷ sign sign_of.Close ∷ sign sign_of.Comma ∷ sign sign_of.Greater ∷ sign sign_of.Equal ∷ sign sign_of.Less ∷ []
 
 abbrev pub class_move : State → ℕ → Move

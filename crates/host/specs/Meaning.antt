@@ -1,7 +1,7 @@
 -- What a host means to whoever uses it: the lines that wait, the marks that stand printed, the paper that is left.
 use Rattle.std.specs.Prelude.{◌≡◌, ℕ, ◌-◌, ◌≤◌, Bool, true, cond, List, [], ◌∷◌, ◌++◌, ℤ, pos, negsuc, ◌≤ℤ◌, Some, None, Option, nat_le, nat_lt, unsigned_abs}
 pub use Rattle.host.specs.declared.mark.Mark.{Mark}
-pub use Rattle.host.specs.declared.mark.Mark.TheVariants.{Number as number, LineEnd as line-end}
+pub use Rattle.host.specs.declared.mark.Mark.TheVariants.{Number as number, LineEnd as line_end}
 
 pub record Meaning : Type 0 where
   pub lines : List ℤ
@@ -42,7 +42,7 @@ ShortLines (z ∷ zs) = (short z ≡ true) × ShortLines zs
 -- what can be printed: a number of 32 signed bits, or a line end
 abbrev pub Printable : Mark → Type 0
 Printable (number z) = (negsuc 2147483647 ≤ℤ z) × (z ≤ℤ pos 2147483647)
-Printable line-end = Unit {0}
+Printable line_end = Unit {0}
 
 -- each mark that can be printed weighs from 1 to 11
 abbrev pub Light : (Mark → ℕ) → Type 0

@@ -1,7 +1,7 @@
 // Hosts: what supplies input lines and takes printed marks. The trait by which all other crates know them, and the two
 // that come with the part. It knows nothing of words of arithmetic, of texts of programs or of machines.
 ghost use Rattle.std.specs.Prelude.{◌≡◌, ℕ, is_ok};
-ghost use Rattle.host.specs.Meaning.{Meaning, Mark as Printed, number, line-end, first, taken, fits, marked, ShortLines, Light};
+ghost use Rattle.host.specs.Meaning.{Meaning, Mark as Printed, number, line_end, first, taken, fits, marked, ShortLines, Light};
 
 pub mod mark;
 pub mod tray;
@@ -53,7 +53,7 @@ pub trait Host {
 
     // Prints a line end, or refuses where its weight exceeds the paper, and then nothing changes.
     fn close(&mut self) -> Result<(), NoPaper>
-        ensures room { is_ok result ≡ fits (weight line-end) (meaning self.old) }
-        ensures after { meaning self.new ≡ marked (weight line-end) line-end (meaning self.old) }
+        ensures room { is_ok result ≡ fits (weight line_end) (meaning self.old) }
+        ensures after { meaning self.new ≡ marked (weight line_end) line_end (meaning self.old) }
         ensures kept { keeps self.old self.new };
 }

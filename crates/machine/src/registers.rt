@@ -1,7 +1,7 @@
 // The registers of a machine, and runs of code over lent memory.
 ghost use Rattle.std.specs.Prelude.{◌≡◌, ◌<◌, ◌≤◌, min, true, List, length, take, drop, ℤ, if◌then◌else◌};
 ghost use Rattle.host.specs.Meaning.{Meaning};
-ghost use Rattle.arithmetic.specs.Words.{sum as sum_of, difference as difference-of, product as product-of, quotient as quotient-of};
+ghost use Rattle.arithmetic.specs.Words.{sum as sum_of, difference as difference_of, product as product_of, quotient as quotient_of};
 ghost use Rattle.runs.specs.Events.{world};
 ghost use Rattle.runs.specs.Machine.{fetch as fetched, inside, held as holds, load, carry_out_lem, step as stepped, counted, run as ran, count};
 ghost use Rattle.runs.specs.declared.status.Status.TheVariants.{Running};
@@ -78,7 +78,7 @@ impl Registers {
     // The accumulator less a cell, and on.
     fn sub<N: Arithmetic>(&mut self, cells: &[i32], cell: u16)
         requires { (self.old.address < 4096) × (cell < length cells.now) }
-        ensures { (s : List ℤ) (h : Meaning) → whole self.new s h ≡ load (difference-of N.Arithmetic.words self.old.accumulator (holds N.Arithmetic.words cells.now cell)) (whole self.old s h) }
+        ensures { (s : List ℤ) (h : Meaning) → whole self.new s h ≡ load (difference_of N.Arithmetic.words self.old.accumulator (holds N.Arithmetic.words cells.now cell)) (whole self.old s h) }
     {
         self.accumulator = difference::<N>(self.accumulator, held::<N>(cells, cell));
         self.address += 1;
@@ -87,7 +87,7 @@ impl Registers {
     // The product of the accumulator and a cell, and on.
     fn mul<N: Arithmetic>(&mut self, cells: &[i32], cell: u16)
         requires { (self.old.address < 4096) × (cell < length cells.now) }
-        ensures { (s : List ℤ) (h : Meaning) → whole self.new s h ≡ load (product-of N.Arithmetic.words self.old.accumulator (holds N.Arithmetic.words cells.now cell)) (whole self.old s h) }
+        ensures { (s : List ℤ) (h : Meaning) → whole self.new s h ≡ load (product_of N.Arithmetic.words self.old.accumulator (holds N.Arithmetic.words cells.now cell)) (whole self.old s h) }
     {
         self.accumulator = product::<N>(self.accumulator, held::<N>(cells, cell));
         self.address += 1;
@@ -96,7 +96,7 @@ impl Registers {
     // The quotient of the accumulator by a cell, and on.
     fn div<N: Arithmetic>(&mut self, cells: &[i32], cell: u16)
         requires { (self.old.address < 4096) × (cell < length cells.now) }
-        ensures { (s : List ℤ) (h : Meaning) → whole self.new s h ≡ load (quotient-of N.Arithmetic.words self.old.accumulator (holds N.Arithmetic.words cells.now cell)) (whole self.old s h) }
+        ensures { (s : List ℤ) (h : Meaning) → whole self.new s h ≡ load (quotient_of N.Arithmetic.words self.old.accumulator (holds N.Arithmetic.words cells.now cell)) (whole self.old s h) }
     {
         self.accumulator = quotient::<N>(self.accumulator, held::<N>(cells, cell));
         self.address += 1;

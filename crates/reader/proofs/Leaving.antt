@@ -2,7 +2,7 @@
 use Rattle.std.proofs.Common.{◌≡◌, ℕ, suc, ◌<◌, List, [], ◌∷◌, length, sym, refl, ap, ◌∙◌, arith}
 use mathlib.Core.Option.{none, some}
 use Rattle.emission.specs.declared.action.Action.{Action}
-use Rattle.emission.specs.declared.moves.Move.{Move as Coded-move}
+use Rattle.emission.specs.declared.moves.Move.{Move as CodedMove}
 use Rattle.emission.specs.declared.moves.Move.TheVariants as code
 use Rattle.emission.specs.Table.{Entry, leaves, to, call, call_two, Move, refuse, leave, enter}
 use Rattle.emission.specs.Classes.{meaning, class_move}
@@ -30,7 +30,7 @@ module _ (q : Rooms) (c : ℕ) (xs k : List Return) (r : Return) (p : Plan) (e :
   fewer = let l : length xs ≡ suc (length k) = ap length e in omega arith
 
 -- a move that neither refuses nor leaves takes the token
-pub takes : (m : Coded-move) → (m ≡ code.Refuse → ⊥) → ((a : Action) → m ≡ code.Leave a → ⊥) → (e : Entry) × (meaning m ≡ enter e)
+pub takes : (m : CodedMove) → (m ≡ code.Refuse → ⊥) → ((a : Action) → m ≡ code.Leave a → ⊥) → (e : Entry) × (meaning m ≡ enter e)
 takes code.Refuse f g = absurd (f refl)
 takes (code.Leave a) f g = absurd (g a refl)
 takes (code.End a) f g = (leaves a, refl)

@@ -2,7 +2,7 @@
 use Rattle.std.specs.Prelude.{◌≡◌, ℕ, ◌-◌, List, [], ◌∷◌, length, Some, None, Option}
 use Rattle.std.proofs.Math.Option as maybe
 use Rattle.stack.specs.Entries as stack
-use Rattle.emission.specs.declared.moves.Move.{Move as Coded-move}
+use Rattle.emission.specs.declared.moves.Move.{Move as CodedMove}
 use Rattle.emission.specs.Table.{Entry, enter}
 use Rattle.emission.specs.Classes.{meaning}
 use Rattle.assembly.specs.Plans.{Plan, Rooms, acted}
@@ -30,6 +30,6 @@ pub record Keeps (a b : Reader) : Type 0 where
   pub returns_room : stack.room b.returns ≡ stack.room a.returns
 
 -- the state that takes a token, if one does, is answered with the address at which it was entered
-abbrev pub Answers : maybe.Option (ℕ × Entry) → Option (ℕ × Coded-move) → Type 0
+abbrev pub Answers : maybe.Option (ℕ × Entry) → Option (ℕ × CodedMove) → Type 0
 Answers o None = o ≡ maybe.none
 Answers o (Some x) = (e : Entry) × (o ≡ maybe.some (x.0, e)) × (meaning x.1 ≡ enter e)

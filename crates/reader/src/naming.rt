@@ -1,7 +1,7 @@
 // Names and numbers: how a name is used by the state at which it comes, and how the table is told.
 ghost use Rattle.std.specs.Prelude.{◌≡◌, min, length};
 ghost use Rattle.token.specs.Views.{meant};
-ghost use Rattle.symbols.specs.Entries.{meant as use-meant};
+ghost use Rattle.symbols.specs.Entries.{meant as use_meant};
 ghost use Rattle.symbols.specs.Table.{Keeps};
 ghost use Rattle.reader.specs.Telling.{CellRead, NameNoted, NumberNoted, TokenNoted};
 ghost use Rattle.reading.specs.Reads.{role_at};
@@ -16,7 +16,7 @@ use token::tokens::{Lexeme, Token};
 
 // The role of a name that comes at a state, and before OF or not.
 pub fn role(state: State, of_next: bool) -> Role
-    ensures { use-meant result ≡ role_at state of_next }
+    ensures { use_meant result ≡ role_at state of_next }
 {
     match state {
         State::Start => Role::Definition,
@@ -34,7 +34,7 @@ pub fn role(state: State, of_next: bool) -> Role
 
 // Whether it is a label in a list after OF.
 pub fn is_listed(role: Role) -> bool
-    ensures { result ≡ is_listed_lem (use-meant role) }
+    ensures { result ≡ is_listed_lem (use_meant role) }
 {
     match role {
         Role::Listed => true,
@@ -44,7 +44,7 @@ pub fn is_listed(role: Role) -> bool
 
 // Whether it is a label.
 fn is_label(role: Role) -> bool
-    ensures { result ≡ labels (use-meant role) }
+    ensures { result ≡ labels (use_meant role) }
 {
     match role {
         Role::Variable => false,
@@ -78,7 +78,7 @@ fn note_name(
     address: u16,
 ) -> Result<u16, Fault>
     ensures kept { Keeps table.old table.new }
-    ensures told { NameNoted table.old table.new (use-meant role) place bytes.now address result }
+    ensures told { NameNoted table.old table.new (use_meant role) place bytes.now address result }
 {
     let index = table.note_name(role, short(place), short(bytes.len()), address)?;
     if is_label(role) {
@@ -108,7 +108,7 @@ pub fn note<N: Arithmetic>(
     address: u16,
 ) -> Result<u16, Fault>
     ensures kept { Keeps table.old table.new }
-    ensures told { TokenNoted N.Arithmetic.words table.old table.new (use-meant role) lexeme.entry.offset address (meant lexeme.entry.token) result }
+    ensures told { TokenNoted N.Arithmetic.words table.old table.new (use_meant role) lexeme.entry.offset address (meant lexeme.entry.token) result }
 {
     match lexeme.token {
         Token::Name(bytes) => note_name(table, role, lexeme.offset, bytes, address),

@@ -6,10 +6,10 @@ use Rattle.trees.specs.Trees.{Name, Command, labelled, empty, assign, go_to, go_
 use Rattle.arithmetic.specs.Words.{Words, Lawful}
 use Rattle.host.specs.Meaning.{Meaning, first, taken, fits, marked}
 use Rattle.runs.specs.Names.{Store}
-use Rattle.runs.specs.Events.{World, Mark, number, line-end, Status, Running, Stopped, NoLine, NoPaper, Corrupt, Close, stop, no_line, no_paper, status_of, Event, line, mark, close, Observation, nothing, observe, observed_from, observed, Tick, quiet, does, Timed, timed, every}
+use Rattle.runs.specs.Events.{World, Mark, number, line_end, Status, Running, Stopped, NoLine, NoPaper, Corrupt, Close, stop, no_line, no_paper, status_of, Event, line, mark, close, Observation, nothing, observe, observed_from, observed, Tick, quiet, does, Timed, timed, every}
 use Rattle.runs.specs.Source.{value, cost, compared, holds, Item, command, end_of_then, Continuation, then_read, then_print, quiets, Stage, at, ended, Step, making, storing, dropping, choosing, picked, pick_cost, perform, step, units, stage, start, events}
 use Rattle.runs.specs.Machine.{Instruction, State, fetch, counted, run, count, loaded}
-use Rattle.runs.specs.Machine.{step as machine-step}
+use Rattle.runs.specs.Machine.{step as machine_step}
 use Rattle.runs.specs.Code.{Layout, code_of}
 use Rattle.runs.specs.Placed.{Among, Placed, Ready}
 use Rattle.runs.specs.Statements.{after, carried, shown, closing, Costs, Whole, WholeExactly, WholeRunExactlyWhen, InstructionsCounted}
@@ -82,7 +82,7 @@ module _ (W : World) (p : List Command) where
   performed (go_to_of x l ls) r v h = stays (open_quiets (pick_cost (v x) (suc (length ls)) (picked (v x) (l ∷ ls))))
   performed (read []) r v h = dropped (first h.lines) r v (taken h)
   performed (read (x ∷ xs)) r v h = stored W.words x (first h.lines) (then_read xs r) v (taken h)
-  performed (print []) r v h = made (fits (W.weight line-end) h) line-end 0 r v (marked (W.weight line-end) line-end h)
+  performed (print []) r v h = made (fits (W.weight line_end) h) line_end 0 r v (marked (W.weight line_end) line_end h)
   performed (print (e ∷ es)) r v h =
       let m : Mark = number (value W.words v e) in
       made (fits (W.weight m) h) m (cost e) (command (print []) ∷ then_print es r) v (marked (W.weight m) m h)
@@ -239,7 +239,7 @@ module _ (W : World) (law : Lawful W.words) (k : Layout) (p : Program) (placed :
 
   -- counts
   one_counted : (t : Status) (o : Option Instruction) (m : State) → m.status ≡ t → fetch (code_of k p) k.used m.address ≡ o → t ≡ Running →
-      ((a : ℕ) → (machine-step W (code_of k p) k.used m).status ≢ Corrupt a) → counted t o ≡ 1
+      ((a : ℕ) → (machine_step W (code_of k p) k.used m).status ≢ Corrupt a) → counted t o ≡ 1
   one_counted Running (Some i) m e f r q = refl
   one_counted Running None m e f r q = absurd (q m.address (rw (e, f)))
   one_counted Stopped o m e f r q = let z : ◌≡◌ {A = ℕ} 0 1 = cc in absurd (omega arith)

@@ -6,9 +6,9 @@ use Rattle.trees.specs.Trees.{less as lesser}
 use Rattle.arithmetic.specs.Words.{Words, Lawful, is_zero, difference, less}
 use Rattle.host.specs.Meaning.{Meaning, first, taken, fits, marked}
 use Rattle.runs.specs.Names.{same, Store, put}
-use Rattle.runs.specs.Events.{World, Mark, number, line-end, Status, Running, Tick, quiet, does}
+use Rattle.runs.specs.Events.{World, Mark, number, line_end, Status, Running, Tick, quiet, does}
 use Rattle.runs.specs.Source.{decimal, apply, value, operators, cost, compared, holds, Item, command, end_of_then, Continuation, find, then_read, then_print, quiets, Stage, at, ended, Step, making, storing, dropping, choosing, picked, pick_cost, marking, leading, perform}
-use Rattle.runs.specs.Source.{step as source-step}
+use Rattle.runs.specs.Source.{step as source_step}
 use Rattle.runs.specs.Machine.{Instruction, Bru, Brz, Lda, Sta, Sub, Read, Convert, Newline, Stop, fetch, State, state, held, load, take_line, make_mark, carry_out_lem, step}
 use Rattle.runs.specs.Code.{Layout, temp, one, operating, cell_of, branching, comparing}
 use Rattle.runs.proofs.Basics.{same_self, same_eq, is_number, found, spent, found_is, spent_is, Fixed, fit_fixed, value_fixed, put_fixed, less_more, test_is}
@@ -283,7 +283,7 @@ module _ (W : World) (law : Lawful W.words) (k : Layout) (V : Name → Type 0) (
         (subst (λ (c : ℕ). Does (at_work a x s h) (record { units = quiets c; next = at (leading W program (found 0 (v y) (l ∷ ls)) r') v h })) (spent_is (v y) (l ∷ ls)) D)
     command_does x h (read_none f) r q = drops h.lines refl q r f
     command_does x h (read_some (more_read {x = y} l f f' o)) r q = stores y h.lines refl q l (reads_rest code k to V L o r) f f'
-    command_does x h (print_none f) r q = marks Newline line-end (fits (W.weight line-end) h) 0 (λ m. refl) refl done q r f
+    command_does x h (print_none f) r q = marks Newline line_end (fits (W.weight line_end) h) 0 (λ m. refl) refl done q r f
     command_does {v = v} {s = s} x h (print_some (more_value {e = e} i f f' o)) r q =
         let E = expr_run v s x h q i in
         marks Convert (number (value w v e)) (fits (W.weight (number (value w v e))) h) (cost e) (λ m. refl) refl E.goes (kept w law k V L apart (omega arith) q E.keeps) (command_at (print_none f') (values_rest code k to V L o r)) f
@@ -303,7 +303,7 @@ module _ (W : World) (law : Lawful W.words) (k : Layout) (V : Name → Type 0) (
         (ap (λ (n : ℤ). holds o (difference w (value w v e') n)) z)
         (kept w law k V L apart (omega arith) Q F.keeps) f'' f''' (command_at c (off_at j r)) (command_at d r)
 
-    pub does_step : {t : Stage} {m : State} → Matches t m → Does m (source-step W program t)
+    pub does_step : {t : Stage} {m : State} → Matches t m → Does m (source_step W program t)
     does_step (rests e) = record { last = _; goes = done; fits_to = rests e }
     does_step (runs {x = x} {h = h} (command_at c r) q) = command_does x h c r q
     does_step (runs (end_at f) q) = record { last = _; goes = tick _ refl f (refl, refl) done; fits_to = rests refl }

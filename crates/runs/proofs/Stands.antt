@@ -9,7 +9,7 @@ use Rattle.std.specs.List.{AllByRecursion as All}
 use Rattle.trees.specs.Trees.{Name, Expr, Command, Program, commands}
 use Rattle.arithmetic.specs.Words.{is_zero}
 use Rattle.host.specs.Meaning.{Meaning, first, fits}
-use Rattle.runs.specs.Events.{World, Mark, number, line-end, Status, Running, Stopped, NoLine, NoPaper, Corrupt}
+use Rattle.runs.specs.Events.{World, Mark, number, line_end, Status, Running, Stopped, NoLine, NoPaper, Corrupt}
 use Rattle.runs.specs.Source.{operators}
 use Rattle.runs.specs.Machine.{Instruction, Bru, Brz, Brn, Brp, Ada, Sub, Mul, Div, Lda, Sta, Read, Convert, Newline, Stop, encode, fetch, State, take_line, make_mark, put_mark, carry_out_lem, move, step, run, loaded}
 use Rattle.runs.specs.Code.{Layout, temp, one, first_temporary, first_free, size, sizes, program_size, locate_all, address_of, instructions, code_of, codes}
@@ -120,7 +120,7 @@ module _ (W : World) (u E : ℕ) (S : ℕ → Type 0) where
   safe_do (Sta a) m b o l f = record { fine = f; within = before (Sta a) m.address refl o }
   safe_do Read m b o l f = safe_take (first m.host.lines) m (before Read m.address refl o) f
   safe_do Convert m b o l f = safe_mark (fits (W.weight (number m.accumulator)) m.host) (W.weight (number m.accumulator)) (number m.accumulator) m (before Convert m.address refl o) f
-  safe_do Newline m b o l f = safe_mark (fits (W.weight line-end) m.host) (W.weight line-end) line-end m (before Newline m.address refl o) f
+  safe_do Newline m b o l f = safe_mark (fits (W.weight line_end) m.host) (W.weight line_end) line_end m (before Newline m.address refl o) f
   safe_do Stop m b o l f = record { fine = tt; within = l }
 
   safe_move : (t : Status) (i : Instruction) (m : State) → m.status ≡ t → Bound (suc E) u S i → (m.address < E) ⊎ (i ≡ Stop) → Safe m → Safe (move W t (Some i) m)
@@ -231,7 +231,7 @@ module _ (W : World) (n u : ℕ) (S : ℕ → Type 0) (s : List ℤ) where
   spared_do (Sta a) m b k = spared_set S s m.cells a m.accumulator b.1 k
   spared_do Read m b k = spared_take (first m.host.lines) m k
   spared_do Convert m b k = spared_mark (fits (W.weight (number m.accumulator)) m.host) (W.weight (number m.accumulator)) (number m.accumulator) m k
-  spared_do Newline m b k = spared_mark (fits (W.weight line-end) m.host) (W.weight line-end) line-end m k
+  spared_do Newline m b k = spared_mark (fits (W.weight line_end) m.host) (W.weight line_end) line_end m k
   spared_do Stop m b k = k
 
   spared_move : (t : Status) (i : Instruction) (m : State) → Bound n u S i → Spared S s m.cells → Spared S s (move W t (Some i) m).cells

@@ -6,10 +6,10 @@ use Rattle.trees.specs.Trees.{Name, Expr, Command, labelled, empty, assign, go_t
 use Rattle.arithmetic.specs.Words.{Words, Lawful}
 use Rattle.host.specs.Meaning.{Meaning, first, taken, fits, marked}
 use Rattle.runs.specs.Names.{Store, zeros}
-use Rattle.runs.specs.Events.{World, Mark, number, line-end, Status, Running, Event, Observation, nothing, observe, observed_from, observed, Tick, quiet, does, Timed, timed, up_to, remaining}
+use Rattle.runs.specs.Events.{World, Mark, number, line_end, Status, Running, Event, Observation, nothing, observe, observed_from, observed, Tick, quiet, does, Timed, timed, up_to, remaining}
 use Rattle.runs.specs.Source.{value, cost, compared, holds, Item, command, end_of_then, Continuation, in_order, find, then_read, then_print, quiets, Stage, at, ended, Step, making, storing, dropping, choosing, picked, pick_cost, step, units, stage, start, events}
 use Rattle.runs.specs.Machine.{State, run, loaded}
-use Rattle.runs.specs.Machine.{step as machine-step}
+use Rattle.runs.specs.Machine.{step as machine_step}
 use Rattle.runs.specs.Code.{Layout, one, address_of, code_of}
 use Rattle.runs.specs.Placed.{Variable, Literal, Placed, Ready}
 use Rattle.runs.specs.Statements.{after, BudgetedRunsSettle, BudgetedRunsAgree}
@@ -99,7 +99,7 @@ module _ (W : World) (p : List Command) where
       (1, inl (let c = costly_pick (v x) (length ls) (picked (v x) (l ∷ ls)) in simp (length-append, length-replicate) (omega arith)))
   wakes_command (read []) r v h d = (1, inl (costly_dropping (first h.lines) r v (taken h)).some)
   wakes_command (read (x ∷ xs)) r v h d = (1, inl (costly_storing W.words x (first h.lines) (then_read xs r) v (taken h)).some)
-  wakes_command (print []) r v h d = (1, inl (costly_making (fits (W.weight line-end) h) line-end 0 r v (marked (W.weight line-end) line-end h)).some)
+  wakes_command (print []) r v h d = (1, inl (costly_making (fits (W.weight line_end) h) line_end 0 r v (marked (W.weight line_end) line_end h)).some)
   wakes_command (print (e ∷ es)) r v h d =
       let m : Mark = number (value W.words v e) in
       (1, inl (costly_making (fits (W.weight m) h) m (cost e) (command (print []) ∷ then_print es r) v (marked (W.weight m) m h)).some)
@@ -133,7 +133,7 @@ module _ (W : World) (p : List Command) where
 
   module _ (law : Lawful W.words) (k : Layout) (V : Name → Type 0) (L : List ℕ → Type 0) (apart : Apart k V L) (code : List ℕ) (to : Name → ℕ)
       (jumps : (l : Name) → RestAt code k to V L (to l) (find l p)) (h : Meaning) where
-    at_rest : {m : State} → Matches W law k V L apart code to ended m → machine-step W code k.used m ≡ m
+    at_rest : {m : State} → Matches W law k V L apart code to ended m → machine_step W code k.used m ≡ m
     at_rest (rests e) = e
 
     none_taken : (N : ℕ) → take {A = Tick} N [] ≡ []

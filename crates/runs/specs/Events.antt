@@ -3,7 +3,7 @@ use Rattle.std.specs.Prelude.{ℕ, suc, ◌+◌, ◌-◌, cond, List, [], ◌∷
 use Rattle.arithmetic.specs.Words.{Words}
 use Rattle.host.specs.Meaning.{Meaning, meaning}
 pub use Rattle.host.specs.declared.mark.Mark.{Mark}
-pub use Rattle.host.specs.declared.mark.Mark.TheVariants.{Number as number, LineEnd as line-end}
+pub use Rattle.host.specs.declared.mark.Mark.TheVariants.{Number as number, LineEnd as line_end}
 pub use Rattle.runs.specs.declared.status.Status.{Status}
 pub use Rattle.runs.specs.declared.status.Status.TheVariants.{Running, Stopped, NoLine, NoPaper, Corrupt}
 

@@ -2,7 +2,7 @@
 use Rattle.std.specs.Prelude.{ℕ, zero, suc, ◌+◌, ◌*◌, ◌/◌, ◌%◌, Bool, true, false, cond, List, [], ◌∷◌, length, ℤ, pos, Some, None, Option, ◌==◌, int_lt, nat_lt, slice_index, slice_index_or, slice_set}
 use Rattle.arithmetic.specs.Words.{Words, is_zero, sum, difference, product, quotient}
 use Rattle.host.specs.Meaning.{Meaning, first, taken, fits, marked}
-use Rattle.runs.specs.Events.{World, Mark, number, line-end, Status, Running, Stopped, NoLine, NoPaper, Corrupt}
+use Rattle.runs.specs.Events.{World, Mark, number, line_end, Status, Running, Stopped, NoLine, NoPaper, Corrupt}
 pub use Rattle.runs.specs.declared.instruction.Instruction.{Instruction}
 pub use Rattle.runs.specs.declared.instruction.Instruction.TheVariants.{Bru, Brz, Brn, Brp, Ada, Sub, Mul, Div, Lda, Sta, Read, Convert, Newline, Stop}
 
@@ -148,7 +148,7 @@ carry_out_lem W (Lda a) m = load (held W.words m.cells a) m
 carry_out_lem W (Sta a) m = store a m
 carry_out_lem W Read m = take_line W.words (first m.host.lines) m
 carry_out_lem W Convert m = put_mark W (number m.accumulator) m
-carry_out_lem W Newline m = put_mark W line-end m
+carry_out_lem W Newline m = put_mark W line_end m
 carry_out_lem W Stop m = shut Stopped m
 
 -- while the run is open the instruction that was fetched is carried out, or, where there is none, the run closes as corrupt at its address

@@ -4,7 +4,7 @@ use Rattle.trees.specs.Trees.{Name, plus, minus, times, over, Relation, greater,
 use Rattle.arithmetic.specs.Words.{Words, Lawful}
 use Rattle.host.specs.Meaning.{Meaning, meaning}
 use Rattle.runs.specs.Names.{same}
-use Rattle.runs.specs.Events.{World, world, Mark, number, line-end, Status, Running, Stopped, NoLine, NoPaper, Corrupt, Timed, Event, line, mark, close, stop, no_line, no_paper}
+use Rattle.runs.specs.Events.{World, world, Mark, number, line_end, Status, Running, Stopped, NoLine, NoPaper, Corrupt, Timed, Event, line, mark, close, stop, no_line, no_paper}
 use Rattle.runs.specs.Source.{events}
 use Rattle.runs.specs.Machine.{Instruction, Bru, Brz, Brn, Brp, Ada, Sub, Mul, Div, Lda, Sta, Read, Convert, Newline, Stop, encode, State, run, count, loaded}
 use Rattle.runs.specs.Code.{Layout, expression, instructions, code_of}
@@ -102,12 +102,12 @@ pub record Samples : Type 0 where
       Read ∷ Sta 66 ∷ Lda 66 ∷ Sta 0 ∷ Lda 67 ∷ Sub 0 ∷ Brn 8 ∷ Bru 14 ∷ Lda 66 ∷ Mul 68 ∷ Sta 2 ∷ Convert ∷ Newline ∷ Bru 14 ∷ Stop ∷ []
   -- on line 12 its run costs 14
   pub thrice_run : events light thrice (meaning (pos 12 ∷ []) [] 9) 9 ≡
-      charged 1 line ∷ charged 11 (mark (number (pos 36))) ∷ charged 12 (mark line-end) ∷ charged 14 (close stop) ∷ []
+      charged 1 line ∷ charged 11 (mark (number (pos 36))) ∷ charged 12 (mark line_end) ∷ charged 14 (close stop) ∷ []
   -- and the machine shows it in 14 steps; after 13 there are the same marks, and the run is open
-  pub thrice_host : (after thrice (pos 12 ∷ []) 9 14).host ≡ meaning [] (number (pos 36) ∷ line-end ∷ []) 7
+  pub thrice_host : (after thrice (pos 12 ∷ []) 9 14).host ≡ meaning [] (number (pos 36) ∷ line_end ∷ []) 7
   pub thrice_stops : (after thrice (pos 12 ∷ []) 9 14).status ≡ Stopped
   pub thrice_count : carried thrice (pos 12 ∷ []) 9 20 ≡ 14
-  pub thrice_marks : (after thrice (pos 12 ∷ []) 9 13).host ≡ meaning [] (number (pos 36) ∷ line-end ∷ []) 7
+  pub thrice_marks : (after thrice (pos 12 ∷ []) 9 13).host ≡ meaning [] (number (pos 36) ∷ line_end ∷ []) 7
   pub thrice_open : (after thrice (pos 12 ∷ []) 9 13).status ≡ Running
   -- 9 is not above 9
   pub thrice_not : events light thrice (meaning (pos 9 ∷ []) [] 9) 9 ≡ charged 1 line ∷ charged 9 (close stop) ∷ []
@@ -118,23 +118,23 @@ pub record Samples : Type 0 where
   pub thrice_paper : after thrice (pos 12 ∷ []) 1 99 ≡ record { address = 12; accumulator = pos 36; cells = (after thrice (pos 12 ∷ []) 1 99).cells; host = meaning [] (number (pos 36) ∷ []) 0; status = NoPaper }
   pub thrice_paper_run : events light thrice (meaning (pos 12 ∷ []) [] 1) 9 ≡ charged 1 line ∷ charged 11 (mark (number (pos 36))) ∷ charged 12 (close no_paper) ∷ []
   -- comparisons look at the second less the first, and a THEN part does not fall into ELSE
-  pub above : (after (compares greater (digit 50) (digit 49)) [] 9 99).host.marks ≡ number (pos 1) ∷ line-end ∷ []
-  pub not_above : (after (compares greater (digit 49) (digit 50)) [] 9 99).host.marks ≡ number (pos 2) ∷ line-end ∷ []
-  pub below : (after (compares less (digit 49) (digit 50)) [] 9 99).host.marks ≡ number (pos 1) ∷ line-end ∷ []
-  pub not_below : (after (compares less (digit 50) (digit 49)) [] 9 99).host.marks ≡ number (pos 2) ∷ line-end ∷ []
-  pub alike : (after (compares equal (digit 50) (digit 50)) [] 9 99).host.marks ≡ number (pos 1) ∷ line-end ∷ []
+  pub above : (after (compares greater (digit 50) (digit 49)) [] 9 99).host.marks ≡ number (pos 1) ∷ line_end ∷ []
+  pub not_above : (after (compares greater (digit 49) (digit 50)) [] 9 99).host.marks ≡ number (pos 2) ∷ line_end ∷ []
+  pub below : (after (compares less (digit 49) (digit 50)) [] 9 99).host.marks ≡ number (pos 1) ∷ line_end ∷ []
+  pub not_below : (after (compares less (digit 50) (digit 49)) [] 9 99).host.marks ≡ number (pos 2) ∷ line_end ∷ []
+  pub alike : (after (compares equal (digit 50) (digit 50)) [] 9 99).host.marks ≡ number (pos 1) ∷ line_end ∷ []
   -- a pick: label 1 costs 4, and no label, where there are three, 6
   pub picks_second : events light picks (meaning (pos 1 ∷ []) [] 9) 9 ≡
-      charged 1 line ∷ charged 8 (mark (number (pos 2))) ∷ charged 9 (mark line-end) ∷ charged 10 (close stop) ∷ []
+      charged 1 line ∷ charged 8 (mark (number (pos 2))) ∷ charged 9 (mark line_end) ∷ charged 10 (close stop) ∷ []
   pub picks_none : (after picks (pos 3 ∷ []) 9 99).host.marks ≡
-      number (pos 9) ∷ line-end ∷ number (pos 1) ∷ line-end ∷ number (pos 2) ∷ line-end ∷ []
+      number (pos 9) ∷ line_end ∷ number (pos 1) ∷ line_end ∷ number (pos 2) ∷ line_end ∷ []
   pub picks_none_cost : carried picks (pos 3 ∷ []) 9 99 ≡ 18
   pub picks_negative : carried picks (negsuc 0 ∷ []) 9 99 ≡ 18
   -- (1 + 2) * (3 + 4) stores to #TEMP1, #TEMP2 and #TEMP3
   pub parentheses : expression layout (binary times (added (digit 49) (digit 50)) (added (digit 51) (digit 52))) ≡
       Lda 69 ∷ Ada 70 ∷ Sta 2 ∷ Lda 68 ∷ Ada 71 ∷ Sta 3 ∷ Lda 2 ∷ Mul 3 ∷ Sta 4 ∷ []
   -- a jump into a THEN part, which is followed by what follows its IF
-  pub jumps_in : (after jump_in [] 9 99).host.marks ≡ number (pos 1) ∷ line-end ∷ number (pos 4) ∷ line-end ∷ []
+  pub jumps_in : (after jump_in [] 9 99).host.marks ≡ number (pos 1) ∷ line_end ∷ number (pos 4) ∷ line_end ∷ []
   pub jumps_in_cost : carried jump_in [] 9 99 ≡ 9
   -- each THEN part that is run off costs 1, and an ELSE part 0
   pub nested_ends : events light nested (meaning [] [] 0) 9 ≡ charged 13 (close stop) ∷ []
@@ -142,14 +142,14 @@ pub record Samples : Type 0 where
   -- a list is read line, store, line, store, and printed with a line end after each value
   pub reads_list : events light (lone (read (Q ∷ Q ∷ []))) (meaning (pos 5 ∷ []) [] 0) 9 ≡ charged 1 line ∷ charged 3 (close no_line) ∷ []
   pub prints_list : events light (lone (print (digit 49 ∷ digit 50 ∷ []))) (meaning [] [] 9) 9 ≡
-      charged 2 (mark (number (pos 1))) ∷ charged 3 (mark line-end) ∷ charged 5 (mark (number (pos 2))) ∷ charged 6 (mark line-end) ∷ charged 7 (close stop) ∷ []
+      charged 2 (mark (number (pos 1))) ∷ charged 3 (mark line_end) ∷ charged 5 (mark (number (pos 2))) ∷ charged 6 (mark line_end) ∷ charged 7 (close stop) ∷ []
   -- READ alone drops a line, and PRINT alone ends one
   pub lone_read : events light (lone (read [])) (meaning (pos 5 ∷ []) [] 0) 9 ≡ charged 1 line ∷ charged 2 (close stop) ∷ []
-  pub lone_print : events light (lone (print [])) (meaning [] [] 1) 9 ≡ charged 1 (mark line-end) ∷ charged 2 (close stop) ∷ []
+  pub lone_print : events light (lone (print [])) (meaning [] [] 1) 9 ≡ charged 1 (mark line_end) ∷ charged 2 (close stop) ∷ []
   -- (1 - 9) / 3 is -2: a quotient drops its fraction towards zero
-  pub towards_zero : (after (lone (print (binary over (binary minus (digit 49) (digit 57)) (digit 51) ∷ []))) [] 9 99).host.marks ≡ number (negsuc 1) ∷ line-end ∷ []
+  pub towards_zero : (after (lone (print (binary over (binary minus (digit 49) (digit 57)) (digit 51) ∷ []))) [] 9 99).host.marks ≡ number (negsuc 1) ∷ line_end ∷ []
   -- 9 / 0 is 9, for which 1 - 1 stands
-  pub by_zero : (after (lone (print (binary over (digit 57) (binary minus (digit 49) (digit 49)) ∷ []))) [] 9 99).host.marks ≡ number (pos 9) ∷ line-end ∷ []
+  pub by_zero : (after (lone (print (binary over (digit 57) (binary minus (digit 49) (digit 49)) ∷ []))) [] 9 99).host.marks ≡ number (pos 9) ∷ line_end ∷ []
   -- operation 11, a jump out of the code that would not be taken, cell 72, call 4, and an address past the code are corrupt
   pub no_operation : raw (0xB000 ∷ []) 1 ≡ Corrupt 0
   pub no_address : raw (encode (Brn 2) ∷ encode Stop ∷ []) 1 ≡ Corrupt 0

@@ -4,7 +4,7 @@ use Rattle.trees.specs.Trees.{Name, Operator, plus, minus, times, over, Relation
 use Rattle.arithmetic.specs.Words.{Words, is_zero, sum, difference, product, quotient}
 use Rattle.host.specs.Meaning.{Meaning, first, taken, fits, marked}
 use Rattle.runs.specs.Names.{Store, same, put, zeros}
-use Rattle.runs.specs.Events.{World, Mark, number, line-end, stop, no_line, no_paper, line, mark, close, Tick, quiet, does, Timed, timed}
+use Rattle.runs.specs.Events.{World, Mark, number, line_end, stop, no_line, no_paper, line, mark, close, Tick, quiet, does, Timed, timed}
 
 -- Expressions.
 
@@ -160,7 +160,7 @@ module _ (W : World) (program : List Command) where
       record { units = quiets (pick_cost (v x) (suc (length ls)) (picked (v x) (l ∷ ls))); next = at (leading (picked (v x) (l ∷ ls)) k) v h }
   perform (read []) k v h = dropping (first h.lines) k v (taken h)
   perform (read (x ∷ xs)) k v h = storing W.words x (first h.lines) (then_read xs k) v (taken h)
-  perform (print []) k v h = marking line-end 0 k v h
+  perform (print []) k v h = marking line_end 0 k v h
   perform (print (e ∷ es)) k v h = marking (number (value W.words v e)) (cost e) (command (print []) ∷ then_print es k) v h
   perform (branch r e f c d) k v h =
       choosing (holds r (compared W.words (value W.words v e) (value W.words v f))) (cost e + cost f + 2) c d k v h

@@ -6,7 +6,7 @@ use Rattle.arithmetic.specs.Words.{Words}
 use Rattle.arithmetic.specs.Wrapping.{wrapping}
 use Rattle.arithmetic.specs.Stopping.{stopping}
 use Rattle.host.specs.declared.mark.Mark.{Mark}
-use Rattle.host.specs.declared.mark.Mark.TheVariants.{Number as number, LineEnd as line-end}
+use Rattle.host.specs.declared.mark.Mark.TheVariants.{Number as number, LineEnd as line_end}
 use Rattle.host.specs.Meaning.{Meaning, meaning}
 use Rattle.grammar.specs.Machine.{parse}
 use Rattle.limits.specs.Rules.{Refused}
@@ -90,7 +90,7 @@ stops n ms = some (shows Stopped n 0 ms ∷ [])
 
 -- a number on a line of its own
 abbrev lone : ℤ → List Mark
-lone z = number z ∷ line-end ∷ []
+lone z = number z ∷ line_end ∷ []
 
 -- the events of a text's source run in so many source steps
 abbrev source : List ℕ → List ℤ → ℕ → Option (List Timed)
@@ -196,7 +196,7 @@ pub record Samples : Type 0 where
   -- Runs.
   -- on line 12 the source run costs 14; the machine shows it in 5 steps and then 9, and after 5 and 8 all but the stop
   pub thrice_source : source thrice (pos 12 ∷ []) 9 ≡
-      some (charged 1 line ∷ charged 11 (mark (number (pos 36))) ∷ charged 12 (mark line-end) ∷ charged 14 (close stop) ∷ [])
+      some (charged 1 line ∷ charged 11 (mark (number (pos 36))) ∷ charged 12 (mark line_end) ∷ charged 14 (close stop) ∷ [])
   pub thrice_stops : runs wrapping thrice (pos 12 ∷ []) 9 (5 ∷ 9 ∷ []) ≡ some (shows Running 5 1 [] ∷ shows Stopped 9 1 (lone (pos 36)) ∷ [])
   pub thrice_open : runs wrapping thrice (pos 12 ∷ []) 9 (5 ∷ 8 ∷ []) ≡ some (shows Running 5 1 [] ∷ shows Running 8 1 (lone (pos 36)) ∷ [])
   -- 9 is not above 9
@@ -209,7 +209,7 @@ pub record Samples : Type 0 where
   pub wraps : prints wrapping (codes "PRINT 2147483647 + 1 END") ≡ stops 6 (lone (negsuc 2147483647))
   pub settles : prints stopping (codes "PRINT 2147483647 + 1 END") ≡ stops 6 (lone (pos 99999999))
   pub wraps_line : runs wrapping (codes "READ X; PRINT X + X, X - 2 END") (pos 1435114081 ∷ []) 9 (99 ∷ []) ≡
-      some (shows Stopped 13 1 (number (negsuc 1424739133) ∷ line-end ∷ number (pos 1435114079) ∷ line-end ∷ []) ∷ [])
+      some (shows Stopped 13 1 (number (negsuc 1424739133) ∷ line_end ∷ number (pos 1435114079) ∷ line_end ∷ []) ∷ [])
   -- divided by 0 a number stays, and a quotient drops its fraction towards 0
   pub by_zero : prints wrapping (codes "PRINT 5 / 0 END") ≡ stops 6 (lone (pos 5))
   pub towards_zero : prints wrapping (codes "PRINT (0 - 7) / 2 END") ≡ stops 9 (lone (negsuc 2))
@@ -226,21 +226,21 @@ pub record Samples : Type 0 where
   pub nested : prints wrapping (codes "IF 1=1THEN IF 1=1THEN ELSE ELSE END") ≡ stops 13 []
   -- a jump into a THEN part, which is followed by what follows its IF
   pub jumps_in : prints wrapping (codes "GO TO A; IF 1 > 2 THEN A: PRINT 1 ELSE PRINT 2; PRINT 4 END") ≡
-      stops 9 (number (pos 1) ∷ line-end ∷ number (pos 4) ∷ line-end ∷ [])
+      stops 9 (number (pos 1) ∷ line_end ∷ number (pos 4) ∷ line_end ∷ [])
   pub jumps_out : prints wrapping (codes "IF 5 - 3 = V THEN L1: PRINT W ELSE GO TO L1; LET Z0 := 6 END") ≡ stops 16 (lone (pos 0))
   pub endless : runs wrapping (codes "OF1:LET TOO:=TOO;GO TO OF1 END") [] 9 (99 ∷ 3 ∷ []) ≡ some (shows Running 99 0 [] ∷ shows Running 3 0 [] ∷ [])
   -- a pick is counted from 0; where it picks none, the next command follows
   pub picks_first : runs wrapping picks (pos 0 ∷ []) 9 (99 ∷ []) ≡
-      some (shows Stopped 11 1 (number (pos 1) ∷ line-end ∷ number (pos 2) ∷ line-end ∷ []) ∷ [])
+      some (shows Stopped 11 1 (number (pos 1) ∷ line_end ∷ number (pos 2) ∷ line_end ∷ []) ∷ [])
   pub picks_second : runs wrapping picks (pos 1 ∷ []) 9 (99 ∷ []) ≡ some (shows Stopped 10 1 (lone (pos 2)) ∷ [])
   pub picks_none : runs wrapping picks (pos 3 ∷ []) 9 (99 ∷ []) ≡
-      some (shows Stopped 18 1 (number (pos 9) ∷ line-end ∷ number (pos 1) ∷ line-end ∷ number (pos 2) ∷ line-end ∷ []) ∷ [])
+      some (shows Stopped 18 1 (number (pos 9) ∷ line_end ∷ number (pos 1) ∷ line_end ∷ number (pos 2) ∷ line_end ∷ []) ∷ [])
   pub picks_negative : runs wrapping picks (negsuc 0 ∷ []) 9 (99 ∷ []) ≡
-      some (shows Stopped 18 1 (number (pos 9) ∷ line-end ∷ number (pos 1) ∷ line-end ∷ number (pos 2) ∷ line-end ∷ []) ∷ [])
+      some (shows Stopped 18 1 (number (pos 9) ∷ line_end ∷ number (pos 1) ∷ line_end ∷ number (pos 2) ∷ line_end ∷ []) ∷ [])
   -- a list is read line, store, line, store; READ alone drops a line, and PRINT alone ends one
   pub reads_list : runs wrapping (codes "L:READ A,B,A;GO TO L;END") (pos 1 ∷ pos 2 ∷ pos 3 ∷ []) 0 (99 ∷ []) ≡ some (shows NoLine 8 3 [] ∷ [])
   pub reads_none : runs wrapping (codes "READ END") (pos 1 ∷ pos 2 ∷ []) 0 (1 ∷ 1 ∷ []) ≡ some (shows Running 1 1 [] ∷ shows Stopped 1 1 [] ∷ [])
-  pub prints_none : prints wrapping (codes "PRINT; PRINT END") ≡ stops 3 (line-end ∷ line-end ∷ [])
+  pub prints_none : prints wrapping (codes "PRINT; PRINT END") ≡ stops 3 (line_end ∷ line_end ∷ [])
   -- what is read is fitted
   pub reads_fitted : runs stopping (codes "READ A; PRINT A END") (pos 999999999999 ∷ []) 9 (99 ∷ []) ≡ some (shows Stopped 6 1 (lone (pos 99999999)) ∷ [])
   pub reads_wrapped : runs wrapping (codes "READ A; PRINT A END") (negsuc 4294967295 ∷ []) 9 (99 ∷ []) ≡ some (shows Stopped 6 1 (lone (pos 0)) ∷ [])

@@ -1,7 +1,7 @@
 // Running totals of a host's lines: one task, written once for every host and every arithmetic.
 ghost use Rattle.std.specs.Prelude.{◌≡◌, ℕ, ℤ, pos, is_ok};
 ghost use Rattle.host.specs.Meaning.{Meaning, fits, marked};
-ghost use Rattle.host.specs.declared.mark.Mark.TheVariants.{Number as number, LineEnd as line-end};
+ghost use Rattle.host.specs.declared.mark.Mark.TheVariants.{Number as number, LineEnd as line_end};
 ghost use Rattle.totals.specs.Running.{Tallied};
 ghost use Rattle.totals.specs.Lines.{line_fits, with_line};
 
