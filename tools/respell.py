@@ -32,12 +32,20 @@ def table():
 NAMES = table()
 
 
-def words(text, answer, left):
+def foreign(text):
+    """What a file imports from the toolchain's library, which keeps its spelling."""
+    found = set()
+    for m in re.finditer(r"use (?:Rattle\.std|lib|borrow)\.[\w.]*\.?\{([^}]*)\}", text):
+        found.update(w.strip() for w in m.group(1).split(","))
+    return found
+
+
+def words(text, answer, left, keep=()):
     """The text with each name of the table respelled."""
 
     def one(m):
         w = m.group()
-        if w not in NAMES:
+        if w not in NAMES or w in keep:
             return w
         behind = m.start() > 0 and text[m.start() - 1] == "."
         if behind and answer and w in MADE:
@@ -49,15 +57,15 @@ def words(text, answer, left):
 
 
 def turn(text, parts, answer, left):
-    out, at = [], 0
+    out, at, keep = [], 0, foreign(text)
     for m in parts.finditer(text):
-        out.append(words(text[at : m.start()], answer, left))
+        out.append(words(text[at : m.start()], answer, left, keep))
         if m.lastgroup == "span":
-            out.append(words(m.group(), answer, left))
+            out.append(words(m.group(), answer, left, keep))
         else:
             out.append(m.group())
         at = m.end()
-    out.append(words(text[at:], answer, left))
+    out.append(words(text[at:], answer, left, keep))
     return "".join(out)
 
 

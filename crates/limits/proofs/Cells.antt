@@ -2,7 +2,7 @@
 use Rattle.std.proofs.Common.{◌≡◌, ℕ, zero, suc, ◌+◌, ◌<◌, ◌≤◌, Bool, true, false, cond, not, ◌&&◌, ◌⊎◌, List, [], ◌∷◌, length, ℤ, sym, refl, ap, ◌∙◌, subst, inl, inr, zero-le, le_trans, le_refl, arith}
 use mathlib.Core.List.{reverse_aux}
 use mathlib.Core.Option.{Option, none, some}
-use Rattle.std.proofs.lemmas.Bool.{false≢true, not_true, cases_lt, and_parts, or_cases}
+use Rattle.std.proofs.lemmas.Bool.{false≢true, not-true, cases_lt, and_parts, or_cases}
 use Rattle.token.specs.Tokens.{Token, Placed}
 use Rattle.token.specs.Numbers.{word}
 use Rattle.trees.specs.Trees.{Name}
@@ -151,7 +151,7 @@ module _ (w : Words) (ts : List Token) (clear : Clear w ts) where
           let p = and_parts (not (is_label_lem u.role)) (not (known w (key w u) (seen ts k))) q in
           elim (cases_lt (cells w (seen ts k)) cell_limit) [
             | inl l ↦ l
-            | inr g ↦ absurd (clear k 7 (no_cell u.role u.spelling (record { is_used = e }) (not_true (is_label_lem u.role) p.0) (new_sound w ts k u.role u.spelling p.1) g))
+            | inr g ↦ absurd (clear k 7 (no_cell u.role u.spelling (record { is_used = e }) (not-true (is_label_lem u.role) p.0) (new_sound w ts k u.role u.spelling p.1) g))
           ]
 
   labels_step : (k : ℕ) (o : Option Use) → use_at (past ts k) (rest ts k) ≡ o → labels w (seen ts k) ≤ label_limit → labels w (with_use o (seen ts k)) ≤ label_limit

@@ -4,7 +4,7 @@ use Rattle.token.specs.declared.kinds.Sign.TheVariants.{Open}
 use Rattle.std.proofs.Common.{◌≡◌, ℕ, zero, suc, ◌<◌, ◌≤◌, Bool, true, false, cond, not, ◌&&◌, List, [], ◌∷◌, length, take, drop, sym, refl, ap, ◌∙◌, subst, inl, inr, suc-le-suc, le_of_suc-le-suc, not-suc-le-zero, eq-or-lt_of_le, arith}
 use mathlib.Core.Option.{Option, none, some, some-injective, none-ne-some}
 use lib.Seq.{take-length}
-use Rattle.std.proofs.lemmas.Bool.{false≢true, not_true, cases_lt, and_parts, and_from, not_from_false}
+use Rattle.std.proofs.lemmas.Bool.{false≢true, not-true, cases_lt, and_parts, and_from, not_from_false}
 use Rattle.token.specs.Tokens.{Token, keyword, sign, Placed}
 use Rattle.arithmetic.specs.Words.{Words}
 use Rattle.grammar.specs.Tests.{is}
@@ -227,7 +227,7 @@ missing_here ts k = go (use_at (past ts k) (rest ts k)) refl
             spelling = u.spelling;
             mentioned = record { is_used = e };
             label = p.0;
-            nowhere = λ j d. clash (somewhere_defined ts u.spelling j d) (not_true (among is_definition u.spelling (uses ts)) p.1);
+            nowhere = λ j d. clash (somewhere_defined ts u.spelling j d) (not-true (among is_definition u.spelling (uses ts)) p.1);
           },
         )
     by u e false h = λ x.

@@ -3,7 +3,7 @@ use Rattle.token.specs.declared.kinds.Keyword.TheVariants.{If}
 use Rattle.token.specs.declared.kinds.Sign.TheVariants.{Open}
 use Rattle.std.proofs.Common.{◌≡◌, ℕ, ◌≤◌, Bool, true, false, not, ◌&&◌, ltb, leb, List, length, sym, refl, ap, ◌∙◌, subst, inl, inr}
 use mathlib.Core.Option.{Option, none, some}
-use Rattle.std.proofs.lemmas.Bool.{false≢true, not_true, ltb-true, leb-true, eqb-true, lt-ltb, le-leb, eq-eqb, and_parts, and_from, not_from_false}
+use Rattle.std.proofs.lemmas.Bool.{false≢true, not-true, ltb-true, leb-true, eqb-true, lt-ltb, le-leb, eq-eqb, and_parts, and_from, not_from_false}
 use Rattle.token.specs.Tokens.{Token, keyword, sign}
 use Rattle.arithmetic.specs.Words.{Words}
 use Rattle.grammar.specs.Tests.{is}
@@ -64,7 +64,7 @@ module _ (w : Words) (ts : List Token) (k : ℕ) where
   -- a symbol is new exactly if it is not known
   pub new_sound : (r : Role) (s : List ℕ) → not (known w (key_by w r s) us) ≡ true → New w ts k r s
   new_sound r s e q t x h =
-      clash (known_complete w (key_by w r s) (made q t) us (earlier_seen ts q t k x) h) (not_true (known w (key_by w r s) us) e)
+      clash (known_complete w (key_by w r s) (made q t) us (earlier_seen ts q t k x) h) (not-true (known w (key_by w r s) us) e)
 
   pub new_complete : (r : Role) (s : List ℕ) → New w ts k r s → not (known w (key_by w r s) us) ≡ true
   new_complete r s h = go (way (known w (key_by w r s) us))
@@ -83,7 +83,7 @@ module _ (w : Words) (ts : List Token) (k : ℕ) where
   long_sound e =
       let x = used_sound long (use_at before after) e in
       let p = and_parts (not (is_literal x.0)) (ltb name_limit (length x.1)) x.3 in
-      long_name x.0 x.1 (record { is_used = x.2 }) (not_true (is_literal x.0) p.0) (ltb-true name_limit (length x.1) p.1)
+      long_name x.0 x.1 (record { is_used = x.2 }) (not-true (is_literal x.0) p.0) (ltb-true name_limit (length x.1) p.1)
 
   -- 5
   abbrev again : Role → List ℕ → Bool
@@ -112,7 +112,7 @@ module _ (w : Words) (ts : List Token) (k : ℕ) where
       let p = and_parts (not (is_literal x.0)) (not (is_literal y.0) && unlike (is_label_lem x.0) (is_label_lem y.0)) y.2 in
       let q = and_parts (not (is_literal y.0)) (unlike (is_label_lem x.0) (is_label_lem y.0)) p.1 in
       other_kind x.0 y.0 x.1 (record { is_used = x.2 }) (seen_earlier ts y.0 x.1 k y.1)
-      (not_true (is_literal x.0) p.0) (not_true (is_literal y.0) q.0) (unlike_sound (is_label_lem x.0) (is_label_lem y.0) q.1)
+      (not-true (is_literal x.0) p.0) (not-true (is_literal y.0) q.0) (unlike_sound (is_label_lem x.0) (is_label_lem y.0) q.1)
 
   -- 7 and 8
   abbrev full : Role → List ℕ → Bool
@@ -123,7 +123,7 @@ module _ (w : Words) (ts : List Token) (k : ℕ) where
       let x = used_sound full (use_at before after) e in
       let p = and_parts (not (is_label_lem x.0)) (not (known w (key_by w x.0 x.1) us) && leb cell_limit (cells w us)) x.3 in
       let q = and_parts (not (known w (key_by w x.0 x.1) us)) (leb cell_limit (cells w us)) p.1 in
-      no_cell x.0 x.1 (record { is_used = x.2 }) (not_true (is_label_lem x.0) p.0) (new_sound x.0 x.1 q.0) (leb-true cell_limit (cells w us) q.1)
+      no_cell x.0 x.1 (record { is_used = x.2 }) (not-true (is_label_lem x.0) p.0) (new_sound x.0 x.1 q.0) (leb-true cell_limit (cells w us) q.1)
 
   abbrev labelled : Role → List ℕ → Bool
   labelled r s = is_label_lem r && (not (known w (key_by w r s) us) && leb label_limit (labels w us))

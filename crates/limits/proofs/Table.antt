@@ -1,7 +1,7 @@
 -- The table of symbols has one for each first use, and no other.
 use Rattle.std.proofs.Common.{◌≡◌, ℕ, zero, suc, ◌+◌, ◌-◌, ◌<◌, ◌≤◌, Bool, true, false, cond, ◌⊎◌, List, [], ◌∷◌, length, drop, sym, refl, ap, ◌∙◌, subst, inl, inr, zero-le, eq-or-lt_of_le, arith}
 use mathlib.Core.Option.{Option, none, some}
-use Rattle.std.proofs.lemmas.Bool.{not_true, or_right, not_from_false}
+use Rattle.std.proofs.lemmas.Bool.{not-true, or_right, not_from_false}
 use Rattle.token.specs.Tokens.{Token, Placed}
 use Rattle.trees.specs.Trees.{Name}
 use Rattle.arithmetic.specs.Words.{Words}
@@ -147,7 +147,7 @@ module _ (w : Words) (address : Name → ℕ) (ts : List Placed) where
           let u : Use = made f.role f.spelling in
           let e : use_at (past tokens k) (rest tokens k) ≡ some u = subst (λ (j : ℕ). use_at (past tokens j) (rest tokens j) ≡ some u) (sym q) f.used.is_used in
           let n : New w tokens k f.role f.spelling = subst (λ (j : ℕ). New w tokens j f.role f.spelling) (sym q) f.new in
-          let h : known w (key w u) (seen tokens k) ≡ false = not_true (known w (key w u) (seen tokens k)) (new_complete w tokens k f.role f.spelling n) in
+          let h : known w (key w u) (seen tokens k) ≡ false = not-true (known w (key w u) (seen tokens k)) (new_complete w tokens k f.role f.spelling n) in
           let c : symbol w address (seen tokens k) p.offset u ≡ s =
           symbol_is k u e h p.offset (place_is k before p ps a)
           ∙ (λ i. record {

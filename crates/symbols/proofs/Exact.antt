@@ -2,7 +2,7 @@
 use Rattle.std.proofs.Common.{◌≡◌, ℕ, ◌<◌, ◌≤◌, Bool, true, false, cond, not, ◌&&◌, ◌||◌, ltb, leb, ◌⊎◌, List, [], ◌∷◌, length, sym, refl, ap, ◌∙◌, subst, inl, inr}
 use mathlib.Core.Option.{Option, none, some, none-ne-some}
 use Rattle.std.specs.Str.{bytes_eq}
-use Rattle.std.proofs.lemmas.Bool.{false≢true, and_parts, and_from, le-leb, lt-leb, lt-ltb, le-ltb, not_true, not_from_false}
+use Rattle.std.proofs.lemmas.Bool.{false≢true, and_parts, and_from, le-leb, lt-leb, lt-ltb, le-ltb, not-true, not_from_false}
 use Rattle.token.specs.Numbers.{word}
 use Rattle.arithmetic.specs.Words.{Words}
 use Rattle.limits.specs.Uses.{Role, definition, target, listed, variable_use, number_use, Use, made, In, at_head, in_tail, is_literal, is_definition, is_label_lem, Key, label_key, variable_key, number_key, key_by, known, cells, labels}
@@ -94,7 +94,7 @@ pub differs : (r q : Role) → differ r q ≡ true → Differs r q
 differs r q e =
     let a = and_parts (not (is_literal r)) (not (is_literal q) && unlike (is_label_lem r) (is_label_lem q)) e in
     let b = and_parts (not (is_literal q)) (unlike (is_label_lem r) (is_label_lem q)) a.1 in
-    record { first_name = not_true (is_literal r) a.0; second_name = not_true (is_literal q) b.0; kinds = b.1 }
+    record { first_name = not-true (is_literal r) a.0; second_name = not-true (is_literal q) b.0; kinds = b.1 }
 
 pub differs_from : (r q : Role) → Differs r q → differ r q ≡ true
 differs_from r q d =

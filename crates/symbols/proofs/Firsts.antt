@@ -1,7 +1,7 @@
 -- The first mentions, by index: each symbol has one, and it says what the table holds of it.
 use Rattle.std.proofs.Common.{◌≡◌, ℕ, ◌+◌, ◌<◌, ◌≤◌, Bool, true, false, cond, not, ◌&&◌, ◌⊎◌, List, [], ◌∷◌, ◌++◌, map, length, get_or, ℤ, pos, sym, refl, ap, ◌∙◌, subst, inl, inr, arith, length-append}
 use lib.Seq.{get_or-append_seam}
-use Rattle.std.proofs.lemmas.List.{get_or_append_left, map_append}
+use Rattle.std.proofs.lemmas.List.{get_or_append_left, map-append}
 use Rattle.std.proofs.lemmas.Bool.{false≢true, cases_lt, or_cases, or_left, or_right}
 use Rattle.trees.specs.Trees.{Name}
 use Rattle.arithmetic.specs.Words.{Words}
@@ -39,7 +39,7 @@ module _ (w : Words) where
   -- the entries are those of the first mentions
   map_more : {A B : Type 0} (f : A → B) (b : Bool) (xs : List B) (ys : List A) (y : A) → xs ≡ map f ys → cond b xs (xs ++ (f y ∷ [])) ≡ map f (cond b ys (ys ++ (y ∷ [])))
   map_more f true xs ys y e = e
-  map_more f false xs ys y e = ap (λ v. v ++ (f y ∷ [])) e ∙ sym (map_append f ys (y ∷ []))
+  map_more f false xs ys y e = ap (λ v. v ++ (f y ∷ [])) e ∙ sym (map-append f ys (y ∷ []))
 
   pub entries_are : (address : Name → ℕ) (seen : List Mention) → entries w address seen ≡ map (entered address) (firsts seen)
   entries_are address [] = refl

@@ -3,7 +3,7 @@ use Rattle.std.proofs.Common.{◌≡◌, ℕ, ◌+◌, ◌<◌, ◌≤◌, Bool,
 use mathlib.Core.Option.{none}
 use lib.Seq.{take-set-lt, drop-set-add, map-set}
 use Rattle.std.specs.Str.{bytes_eq}
-use Rattle.std.proofs.lemmas.List.{get_or-map, length-map, map_append, take_more_set, length-drop}
+use Rattle.std.proofs.lemmas.List.{get_or-map, length-map, map-append, take_more_set, length-drop}
 use Rattle.std.proofs.lemmas.Bool.{false≢true, and_parts, cases_lt}
 use Rattle.trees.specs.Trees.{Name}
 use Rattle.arithmetic.specs.Words.{Words}
@@ -177,8 +177,8 @@ module _ (w : Words) (a : Table) (seen : List Mention) (h : Holds w a seen) (m :
     grown at v l q same e =
         take_more_set a.symbols.now at v l
         ∙ (λ j. (ap (λ n. take n a.symbols.now) q ∙ symbols_firsts w a seen h ∙ ap (map entry) (sym same)) j ++ (e j ∷ []))
-        ∙ sym (ap (map entry) (entries_are w then_at (m ∷ seen) ∙ ap (map (entered then_at)) (firsts_new w m seen new) ∙ map_append (entered then_at) fs (f ∷ []))
-        ∙ map_append entry (map (entered then_at) fs) (entered then_at f ∷ []))
+        ∙ sym (ap (map entry) (entries_are w then_at (m ∷ seen) ∙ ap (map (entered then_at)) (firsts_new w m seen new) ∙ map-append (entered then_at) fs (f ∷ []))
+        ∙ map-append entry (map (entered then_at) fs) (entered then_at f ∷ []))
 
     pub holds_cell : (b : Table) (c : Kind) (v : ℤ) → is_label_lem r ≡ false → c ≡ kind_entry (kind_of r) → v ≡ initial w m.used →
         AddsCell a b (cell_symbol c m.place (length s) a.celled) v → a.celled < 446 → Holds w b (m ∷ seen)

@@ -29,5 +29,5 @@ returns-in-10000000-to-99999999 c = record { value = sym (digits_between 6 c.arg
 pub returns-in-100000000-to-999999999 : goal.returns-in-100000000-to-999999999
 returns-in-100000000-to-999999999 c = record { value = sym (digits_between 7 c.args.n (omega arith) (omega arith) (omega arith)); bound = (omega arith, omega arith) }
 
-pub returns-in-default : goal.returns-in-default
-returns-in-default c = record { value = sym (digits_between 8 c.args.n (omega arith) (omega arith) (omega arith)); bound = (omega arith, omega arith) }
+pub returns-in_default : goal.returns-in_default
+returns-in_default c = record { value = sym (digits_between 8 c.args.n (omega arith) (omega arith) (omega arith)); bound = (omega arith, omega arith) }

@@ -11,7 +11,7 @@ returns g c =
     let z = c.args.word in
     let e = to_z-of_z w32 z c.ranges.word in
     let h = g.H.Host.meaning c.args.host.now in
-    let p = c.in-ok-put.ensures in
+    let p = c.in_ok-put.ensures in
     let room : fits (weight (Number z)) h ≡ true = ap (λ n. fits (weight (Number n)) h) (sym e) ∙ sym p.room in
     let first : g.H.Host.meaning c.put.new.self ≡ with_number weight z h = p.after ∙ ap (λ n. with_number weight n h) e in
     record {

@@ -7,7 +7,7 @@ use Rattle.totals.specs.Running.{plus, Tallied}
 use Rattle.totals.specs.Lines.{line_fits, with_line}
 use Rattle.totals.proofs.Turns.{State, ended, next, stopped, enough, outset}
 use Rattle.totals.proofs.run.Goals as goal
-use Rattle.totals.proofs.run.Goals.{After-print-line}
+use Rattle.totals.proofs.run.Goals.{After-print_line}
 use Rattle.totals.proofs.run.Given.{Over}
 
 pub loop-taken-init : goal.loop-taken-init
@@ -37,7 +37,7 @@ returns-in-None g c =
     }
 
 -- the word that is printed is the total with the line
-word : (g : Over) (c : After-print-line g) → to_z w32 (of_z w32 c.sum-total.result) ≡ plus g.N.Arithmetic.words c.loop-taken.total c.in-Some.line
+word : (g : Over) (c : After-print_line g) → to_z w32 (of_z w32 c.sum-total.result) ≡ plus g.N.Arithmetic.words c.loop-taken.total c.in-Some.line
 word g c =
     let w = g.N.Arithmetic.words in
     let r : SFits w32 c.sum-total.result = search rules in
@@ -47,12 +47,12 @@ word g c =
     to_z-of_z w32 c.sum-total.result r ∙ c.sum-total.ensures ∙ (λ j. sum w (c.loop-taken.total-is j) (line j))
 
 -- and the line that was taken waited first
-waited : (g : Over) (c : After-print-line g) → Some c.in-Some.line ≡ first (g.H.Host.meaning c.loop-taken.host).lines
+waited : (g : Over) (c : After-print_line g) → Some c.in-Some.line ≡ first (g.H.Host.meaning c.loop-taken.host).lines
 waited g c = c.in-Some.ensures.line
 
 pub returns-in-Err : goal.returns-in-Err
 returns-in-Err g c =
-    let d = (goal.at.returns-in-Err g c).After-print-line in
+    let d = (goal.at.returns-in-Err g c).After-print_line in
     let w = g.N.Arithmetic.words in
     let weight = g.H.Host.weight in
     let old = g.H.Host.meaning c.args.host.now in
@@ -61,7 +61,7 @@ returns-in-Err g c =
     let e = c.in-Err.ensures in
     let t = c.in-Some.ensures in
     let fit : line_fits weight z (taken new) ≡ false = sym (e.room ∙ (λ j. line_fits weight (word g d j) (t.after j))) in
-    let after : g.H.Host.meaning c.print-line.new.host ≡ with_line weight z (taken new) = e.after ∙ (λ j. with_line weight (word g d j) (t.after j)) in
+    let after : g.H.Host.meaning c.print_line.new.host ≡ with_line weight z (taken new) = e.after ∙ (λ j. with_line weight (word g d j) (t.after j)) in
     record {
       tallied = retold w weight c.args.most old (c.loop-taken.taken + 1) z _ false (with_line weight z (taken new)) _ (word g d) after
           (stopped w weight c.args.most old c.loop-taken.taken c.loop-taken.total new (as_total c.loop-taken.total-is c.loop-taken.invariant.1) c.in-Some.line (waited g d) c.loop-taken-test.true fit);
@@ -70,7 +70,7 @@ returns-in-Err g c =
 
 pub loop-taken-preserved : goal.loop-taken-preserved
 loop-taken-preserved g c =
-    let d = (goal.at.loop-taken-preserved g c).After-print-line in
+    let d = (goal.at.loop-taken-preserved g c).After-print_line in
     let w = g.N.Arithmetic.words in
     let weight = g.H.Host.weight in
     let old = g.H.Host.meaning c.args.host.now in
@@ -79,10 +79,10 @@ loop-taken-preserved g c =
     let e = c.in-Ok.ensures in
     let t = c.in-Some.ensures in
     let fit : line_fits weight z (taken new) ≡ true = sym (e.room ∙ (λ j. line_fits weight (word g d j) (t.after j))) in
-    let after : g.H.Host.meaning c.print-line.new.host ≡ with_line weight z (taken new) = e.after ∙ (λ j. with_line weight (word g d j) (t.after j)) in
+    let after : g.H.Host.meaning c.print_line.new.host ≡ with_line weight z (taken new) = e.after ∙ (λ j. with_line weight (word g d j) (t.after j)) in
     let s = next w weight c.args.most old c.loop-taken.taken c.loop-taken.total new (as_total c.loop-taken.total-is c.loop-taken.invariant.1) c.in-Some.line (waited g d) c.loop-taken-test.true fit in (
       g.H.Host.along _ _ _ c.loop-taken.invariant.0 (g.H.Host.along _ _ _ t.kept e.kept),
-      subst (λ u. State w weight c.args.most old (c.loop-taken.taken + 1) u (g.H.Host.meaning c.print-line.new.host)) (sym (word g d))
+      subst (λ u. State w weight c.args.most old (c.loop-taken.taken + 1) u (g.H.Host.meaning c.print_line.new.host)) (sym (word g d))
           (subst (λ h. State w weight c.args.most old (c.loop-taken.taken + 1) z h) (sym after) s),
     )
 

@@ -7,7 +7,7 @@ use Rattle.emission.proofs.table.entry.Goals.{then-class-lt26, else-class-lt26}
 found : (c : goal.After-lettered) (n : ℕ) → c.if-class-lt26.column ≡ n → n < 26 → meaning c.lettered.result ≡ class_move c.args.state n
 found c n e h =
     ap meaning c.lettered.ensures
-    ∙ ap by_letter (c.letter.ensures ∙ (λ i. get_or (get_or letters (c.state-number.ensures i) []) (e i) 0))
+    ∙ ap by_letter (c.letter.ensures ∙ (λ i. get_or (get_or letters (c.state_number.ensures i) []) (e i) 0))
     ∙ entry_right c.args.state n h
 
 pub returns : goal.returns

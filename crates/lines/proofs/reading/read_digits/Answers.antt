@@ -9,16 +9,16 @@ loop-at-init c = (
   (λ m. refl),
 )
 
-pub overflow-mul-value : goal.overflow-mul-value
-overflow-mul-value c =
+pub overflow_mul-value : goal.overflow_mul-value
+overflow_mul-value c =
     let b = bounds_here c.args.text.now c.loop-at.at c.loop-at.value c.loop-at.invariant.1 c.loop-at-test.true in
     omega (arith, b.2)
 
-pub overflow-sub-value : goal.overflow-sub-value
-overflow-sub-value c = (bounds_here c.args.text.now c.loop-at.at c.loop-at.value c.loop-at.invariant.1 c.loop-at-test.true).0
+pub overflow_sub-value : goal.overflow_sub-value
+overflow_sub-value c = (bounds_here c.args.text.now c.loop-at.at c.loop-at.value c.loop-at.invariant.1 c.loop-at-test.true).0
 
-pub overflow-add-value : goal.overflow-add-value
-overflow-add-value c =
+pub overflow_add-value : goal.overflow_add-value
+overflow_add-value c =
     let b = bounds_here c.args.text.now c.loop-at.at c.loop-at.value c.loop-at.invariant.1 c.loop-at-test.true in
     omega (arith, b.1, b.2)
 

@@ -7,10 +7,10 @@ use Rattle.text_host.specs.Rendering.{mark_bytes, mark_of}
 use Rattle.text_host.specs.Texts.{text_meaning}
 use Rattle.text_host.proofs.Printing.{front_back, mark_back, printable}
 use Rattle.text_host.proofs.TextHostHost.put.Goals as goal
-use Rattle.text_host.proofs.TextHostHost.put.Goals.{After-append-arg-2·1}
+use Rattle.text_host.proofs.TextHostHost.put.Goals.{After-width}
 
 -- what stands in the small buffer: the number's decimals
-shown : (c : After-append-arg-2·1) → take (c.width.result - 0) c.write.new.out ≡ signed_decimal c.args.word
+shown : (c : After-width) → take (c.width.result - 0) c.write.new.out ≡ signed_decimal c.args.word
 shown c =
     let e = to_z-of_z w32 c.args.word c.ranges.word in
     let n = c.width.ensures.value in
@@ -18,7 +18,7 @@ shown c =
 
 pub append-requires : goal.append-requires
 append-requires c =
-    let s = shown c in
+    let s = shown (goal.at.append-requires c).After-width in
     let back = mark_back (Number c.args.word) (printable c.args.word c.ranges.word) in
     let l : length (take (c.width.result - 0) c.write.new.out) ≡ length (signed_decimal c.args.word) = ap length s in
     let n : c.width.result ≡ length (signed_decimal c.args.word) = c.width.ensures.value ∙ ap (λ z. length (signed_decimal z)) (to_z-of_z w32 c.args.word c.ranges.word) in
@@ -30,7 +30,7 @@ append-requires c =
 
 pub returns : goal.returns
 returns c =
-    let s = shown (goal.at.returns c).After-append-arg-2·1 in
+    let s = shown (goal.at.returns c).After-width in
     let back = mark_back (Number c.args.word) (printable c.args.word c.ranges.word) in
     let h = text_meaning c.args.self.now in
     record {

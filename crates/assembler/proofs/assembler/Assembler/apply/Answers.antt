@@ -21,8 +21,8 @@ returns-in-Some-Some c = record {
       c.operation.ensures.kept.operands_room ∙ c.pop-left.ensures.kept.size ∙ c.pop-right.ensures.kept.size in
       let fits : length (entries s.operands) ≤ room c.operation.new.self.operands = omega (arith, entries_fit s.operands, size) in
       applied_is o n (words s.code.now s.count) ms (entries c.pop.new.self) r l c.in-Some-Some.right c.in-Some-Some.left cs (entries c.pop-left.new.self) s.target s.kept s.relation
-      (room c.operation.new.self.operands) c.saturating-add.result c.saturating-add-self.result (plan c.operation.new.self) (plan c.push-operand.new.self)
-      m.1 b.1 right left c.operation.ensures.after c.saturating-add.ensures c.push-operand.ensures.after
-      (room_again (room c.operation.new.self.operands) (temporary n) r l cs (entries s.operands) fits f) c.saturating-add-self.ensures);
+      (room c.operation.new.self.operands) c.saturating_add.result c.saturating_add-self.result (plan c.operation.new.self) (plan c.push_operand.new.self)
+      m.1 b.1 right left c.operation.ensures.after c.saturating_add.ensures c.push_operand.ensures.after
+      (room_again (room c.operation.new.self.operands) (temporary n) r l cs (entries s.operands) fits f) c.saturating_add-self.ensures);
   kept = search rules;
 }

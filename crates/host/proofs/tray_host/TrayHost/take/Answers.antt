@@ -11,12 +11,12 @@ returns-then-self c =
     let e = none_waits _ (take t.count t.marks.now) (length t.marks.now - t.count) (past_end t.numbers.now t.next (omega arith)) in
     record { line = e.0; after = e.1; kept = tray_still t }
 
-pub returns-then-not-is-short : goal.returns-then-not-is-short
-returns-then-not-is-short c =
+pub returns-then-not-is_short : goal.returns-then-not-is_short
+returns-then-not-is_short c =
     let t = c.args.self.now in
     let z = get_or t.numbers.now t.next (pos 0) in
     let f : SFits w64 z = search rules in
-    let long = ap short (sym (to_z-of_z w64 z f)) ∙ sym c.if-not-is-short.ensures in
+    let long = ap short (sym (to_z-of_z w64 z f)) ∙ sym c.if-not-is_short.ensures in
     let e = none_waits _ (take t.count t.marks.now) (length t.marks.now - t.count) (at_long t.numbers.now t.next c.if-self.false long) in
     record { line = e.0; after = e.1; kept = tray_still t }
 
@@ -25,7 +25,7 @@ returns c =
     let t = c.args.self.now in
     let z = get_or t.numbers.now t.next (pos 0) in
     let f : SFits w64 z = search rules in
-    let fine = ap short (sym (to_z-of_z w64 z f)) ∙ sym c.if-not-is-short.ensures in
+    let fine = ap short (sym (to_z-of_z w64 z f)) ∙ sym c.if-not-is_short.ensures in
     let e = one_waits _ _ z (take t.count t.marks.now) (length t.marks.now - t.count) (at_short t.numbers.now t.next c.if-self.false fine) in
     record {
       line = ap Some (to_z-of_z w64 z f) ∙ e.0;

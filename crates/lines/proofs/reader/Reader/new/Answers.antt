@@ -5,12 +5,12 @@ use Rattle.lines.proofs.Steps.{drop_end, lawful_lines, broken_lines}
 use Rattle.lines.proofs.reader.Reader.new.Goals as goal
 use Rattle.lines.proofs.reader.Reader.new.Goals.{in-Ok, in-Err}
 
-pub invariant-of-result : goal.invariant-of-result
-invariant-of-result c =
+pub invariant_of-result : goal.invariant_of-result
+invariant_of-result c =
     let xs = c.args.text.now in
     elim c.match-check.branch [
-      | in-Ok w ↦ ((omega (arith, w.at-is), ap (λ i. lawful_from Start (drop i xs)) w.at-is ∙ (lines_read w.in-Ok.ensures.1).0), tt)
-      | in-Err w ↦ ((omega (arith, w.at-is), ap (λ i. lawful_from Start (drop i xs)) w.at-is ∙ ap (lawful_from Start) (drop_end xs (length xs) (omega arith))), tt)
+      | in-Ok w ↦ record { ok = (omega (arith, w.at-is), ap (λ i. lawful_from Start (drop i xs)) w.at-is ∙ (lines_read w.in-Ok.ensures.1).0) }
+      | in-Err w ↦ record { ok = (omega (arith, w.at-is), ap (λ i. lawful_from Start (drop i xs)) w.at-is ∙ ap (lawful_from Start) (drop_end xs (length xs) (omega arith))) }
     ]
 
 pub returns : goal.returns

@@ -12,17 +12,17 @@ returns-then-self-text c =
     let e = ap (numbers false 0) (drop_end c.args.self.now.text.now c.args.self.now.at c.if-self-text.true) in
     record { line = (e, e); lent = refl }
 
-pub read-digits-value-requires : goal.read-digits-value-requires
-read-digits-value-requires c =
+pub read_digits-value-requires : goal.read_digits-value-requires
+read_digits-value-requires c =
     let r = c.args.self.now in (minus_here r.text.now r.at c.if-self-text.false r.ok.1 c.if-text-self-eq45.true).0
 
-pub read-digits-value-requires-else-text-self-eq45 : goal.read-digits-value-requires-else-text-self-eq45
-read-digits-value-requires-else-text-self-eq45 c =
+pub read_digits-value-requires-else-text-self-eq45 : goal.read_digits-value-requires-else-text-self-eq45
+read_digits-value-requires-else-text-self-eq45 c =
     let r = c.args.self.now in plain_here r.text.now r.at c.if-self-text.false r.ok.1 c.if-text-self-eq45.false
 
 pub returns-then-text-self-eq45 : goal.returns-then-text-self-eq45
 returns-then-text-self-eq45 c =
     let r = c.args.self.now in
-    let n = c.read-digits-value.result.0 in
+    let n = c.read_digits-value.result.0 in
     let e = (minus_here r.text.now r.at c.if-self-text.false r.ok.1 c.if-text-self-eq45.true).1 in
-    record { line = e ∙ c.read-digits-value.ensures.value true ∙ ap (λ z. z ∷ numbers false 0 (drop c.read-digits-value.result.1 r.text.now)) (negated n c.read-digits-value.ensures.short); lent = refl }
+    record { line = e ∙ c.read_digits-value.ensures.value true ∙ ap (λ z. z ∷ numbers false 0 (drop c.read_digits-value.result.1 r.text.now)) (negated n c.read_digits-value.ensures.short); lent = refl }

@@ -2,8 +2,8 @@ use Rattle.std.proofs.Common.{◌<◌, length, sym, arith}
 use Rattle.machine.proofs.Fetched.{inside_more, fetch_in, fetch_inside}
 use Rattle.machine.proofs.registers.Registers.step.Goals as goal
 
-pub carry-out-requires : goal.carry-out-requires
-carry-out-requires g c =
+pub carry_out-requires : goal.carry_out-requires
+carry_out-requires g c =
     let code = c.args.code.now in
     let a = c.args.self.now.address in
     let i = c.in-Some.instruction in

@@ -11,7 +11,7 @@ pub returns-in-Some : goal.returns-in-Some
 returns-in-Some g c =
     let x = word_of g.N.Arithmetic.words c.spelled.result.now c.in-Some.word c.in-Some.ensures in
     let f : SFits w32 c.in-Some.word = search rules in
-    let e = c.note-word.ensures in
+    let e = c.note_word.ensures in
     record {
       kept = e.kept;
       answers = e.answers;

@@ -17,25 +17,25 @@ returns-in-Some c =
       told = λ w seen s address h z snd v. number_old w c.args.self.now seen h s c.args.place c.args.length address (to_z w32 (of_z w32 c.args.word)) z snd (v ∙ sym (to_z-of_z w32 c.args.word c.ranges.word)) c.in-Some.index f.0 f.1;
     }
 
-pub returns-then-is-full : goal.returns-then-is-full
-returns-then-is-full c =
+pub returns-then-is_full : goal.returns-then-is_full
+returns-then-is_full c =
     record {
       kept = keeps_same c.args.self.now;
       answers = refl;
       told = λ w seen s address h z snd v. (
-        number_full w c.args.self.now seen h s c.args.place c.args.length address (to_z w32 (of_z w32 c.args.word)) z snd (v ∙ sym (to_z-of_z w32 c.args.word c.ranges.word)) c.in-None.ensures (sym c.if-is-full.ensures)
-            ∙ ap (λ x. maybe.some (numbered x)) (sym c.fault-at.ensures.0),
-        c.fault-at.ensures.1,
+        number_full w c.args.self.now seen h s c.args.place c.args.length address (to_z w32 (of_z w32 c.args.word)) z snd (v ∙ sym (to_z-of_z w32 c.args.word c.ranges.word)) c.in-None.ensures (sym c.if-is_full.ensures)
+            ∙ ap (λ x. maybe.some (numbered x)) (sym c.fault_at.ensures.0),
+        c.fault_at.ensures.1,
       );
     }
 
-pub returns-else-is-short : goal.returns-else-is-short
-returns-else-is-short c =
+pub returns-else-is_short : goal.returns-else-is_short
+returns-else-is_short c =
     let a = c.args.self.now in
-    let b = c.add-cell.new.self in
-    let x = c.add-cell.ensures.after in
+    let b = c.add_cell.new.self in
+    let x = c.add_cell.ensures.after in
     record {
       kept = keeps_cell a b (cell_symbol Number c.args.place c.args.length a.celled) (to_z w32 (of_z w32 c.args.word)) x;
-      answers = omega (arith, c.add-cell.ensures.index, x.celled_are, x.labels_are);
-      told = λ w seen s address h z snd v. subst (λ (i : ℕ). Taken w b seen (mention number_use s c.args.place address) i) (sym c.add-cell.ensures.index) (number_new w a seen h s c.args.place c.args.length address (to_z w32 (of_z w32 c.args.word)) z snd (v ∙ sym (to_z-of_z w32 c.args.word c.ranges.word)) c.in-None.ensures b (sym c.if-is-full.ensures) x);
+      answers = omega (arith, c.add_cell.ensures.index, x.celled_are, x.labels_are);
+      told = λ w seen s address h z snd v. subst (λ (i : ℕ). Taken w b seen (mention number_use s c.args.place address) i) (sym c.add_cell.ensures.index) (number_new w a seen h s c.args.place c.args.length address (to_z w32 (of_z w32 c.args.word)) z snd (v ∙ sym (to_z-of_z w32 c.args.word c.ranges.word)) c.in-None.ensures b (sym c.if-is_full.ensures) x);
     }

@@ -17,12 +17,12 @@ none_over out w = let z : w ≡ w + 0 = omega arith in sym (take-append-drop w o
 pub loop-i-init : goal.loop-i-init
 loop-i-init c = (refl, refl, none_over c.args.self.now.output.now c.args.self.now.written, refl, refl, refl)
 
-pub invariant-of-self : goal.invariant-of-self
-invariant-of-self c =
+pub invariant_of-self : goal.invariant_of-self
+invariant_of-self c =
     let s = c.loop-i.self in
     let j : ℕ = c.args.self.now.written + c.loop-i.i in
     let t = touched s.output.now s.lengths.now s.written s.count j (get_or c.args.bytes.now c.loop-i.i 0) (held s) (omega (arith, c.loop-i.invariant.3)) in
-    (t.room, (t.fewer, (t.sum, (t.text, tt))))
+    record { room = t.room; fewer = t.fewer; sum = t.sum; text = t.text }
 
 pub loop-i-preserved : goal.loop-i-preserved
 loop-i-preserved c =
@@ -43,8 +43,8 @@ moved : (out out' lens lens' : List ℕ) (w n k k' : ℕ) → out ≡ out' → l
 moved out out' lens lens' w n k k' p q r h =
     subst (λ j. Holds out w (set lens j n) (j + 1)) (sym r) (subst (λ l. Holds out w (set l k' n) (k' + 1)) (sym q) (subst (λ o. Holds o w (set lens' k' n) (k' + 1)) (sym p) h))
 
-pub invariant-of-self-2 : goal.invariant-of-self-2
-invariant-of-self-2 c =
+pub invariant_of-self-2 : goal.invariant_of-self-2
+invariant_of-self-2 c =
     let i = c.loop-i.invariant in
     let h = c.args.self.now in
     let s = c.loop-i.self in
@@ -53,7 +53,7 @@ invariant-of-self-2 c =
     let all = whole_holds h.output.now h.lengths.now bs h.written h.count (held h) c.requires.mark c.requires.some fit in
     let out : s.output.now ≡ overwritten h.output.now h.written bs = i.2 ∙ ap (overwritten h.output.now h.written) (take_all c.loop-i.i bs c.loop-i-test.false) in
     let t = moved s.output.now (overwritten h.output.now h.written bs) s.lengths.now h.lengths.now (h.written + length bs) (length bs) s.count h.count out (ap (λ r. r.now) i.4) i.5 all in
-    (t.room, (t.fewer, (t.sum, (t.text, tt))))
+    record { room = t.room; fewer = t.fewer; sum = t.sum; text = t.text }
 
 pub returns : goal.returns
 returns c =
