@@ -2,39 +2,40 @@
 use host::Host;
 use host::mark::Mark;
 use host::tray::Tray;
-use std::process::Abort;
+use std::test::Fail;
 use text_host::text::TextHost;
 
 // Prints marks, each with whether there should be paper for it.
-fn print_all<H: Host>(rt: &impl Abort, host: &mut H, marks: &[(Mark, bool)]) {
+fn print_all<H: Host>(host: &mut H, marks: &[(Mark, bool)]) -> Result<(), Fail> {
     for (mark, room) in marks {
         let printed = match *mark {
             Mark::Number(word) => host.put(word),
             Mark::LineEnd => host.close(),
         };
-        assert_eq!(rt; printed.is_ok(), *room);
+        if printed.is_ok() != *room {
+            return Err(Fail::new("paper, or none, where it should not be"));
+        }
     }
+    Ok(())
 }
 
 #[test]
-fn empty_hosts(rt: HostRuntime) {
+fn empty_hosts(rt: HostRuntime) -> Result<(), Fail> {
     let mut no_marks: [Mark; 0] = [];
     let mut tray = Tray::new(&[], &mut no_marks);
     assert_eq!(rt; tray.take(), None);
     print_all(
-        &rt,
         &mut tray,
         &[(Mark::Number(1), false), (Mark::LineEnd, false)],
-    );
+    )?;
     let mut no_bytes: [u8; 0] = [];
     let mut no_lengths: [u8; 0] = [];
     let mut text = TextHost::new(b"", &mut no_bytes, &mut no_lengths);
     assert_eq!(rt; text.take(), None);
     print_all(
-        &rt,
         &mut text,
         &[(Mark::Number(1), false), (Mark::LineEnd, false)],
-    );
+    )
 }
 
 #[test]
@@ -50,7 +51,7 @@ fn tray_lines_end_at_a_long_one(rt: HostRuntime) {
 }
 
 #[test]
-fn tray_marks(rt: HostRuntime) {
+fn tray_marks(rt: HostRuntime) -> Result<(), Fail> {
     let mut marks = [Mark::Number(9); 3];
     let mut tray = Tray::new(&[], &mut marks);
     assert_eq!(rt; tray.weigh(Mark::Number(-2_147_483_648)), 1);
@@ -60,23 +61,28 @@ fn tray_marks(rt: HostRuntime) {
         (Mark::Number(7), true),
         (Mark::LineEnd, false),
     ];
-    print_all(&rt, &mut tray, &all);
-    assert!(rt; tray.printed() == &[Mark::Number(36), Mark::LineEnd, Mark::Number(7)]);
+    print_all(&mut tray, &all)?;
+    assert!(rt; tray.printed() == [Mark::Number(36), Mark::LineEnd, Mark::Number(7)].as_slice());
+    Ok(())
 }
 
 // A text host over so many bytes and lengths prints the marks, and the text is then this.
-fn prints(rt: &impl Abort, bytes: usize, lengths: usize, marks: &[(Mark, bool)], text: &[u8]) {
+fn prints(bytes: usize, lengths: usize, marks: &[(Mark, bool)], text: &[u8]) -> Result<(), Fail> {
     let mut output = [0u8; 16];
     let mut sizes = [0u8; 16];
-    assert!(rt; bytes <= 16 && lengths <= 16);
+    if bytes > 16 || lengths > 16 {
+        return Err(Fail::new("more room than there is"));
+    }
     let mut host = TextHost::new(b"8\n", &mut output[0..bytes], &mut sizes[0..lengths]);
-    print_all(rt, &mut host, marks);
-    assert_eq!(rt; host.take(), Some(8));
-    assert!(rt; host.printed() == text);
+    print_all(&mut host, marks)?;
+    if host.take() != Some(8) || host.printed() != text {
+        return Err(Fail::new("another line, or another text"));
+    }
+    Ok(())
 }
 
 #[test]
-fn text_at_the_edge_of_its_room(rt: HostRuntime) {
+fn text_at_the_edge_of_its_room() -> Result<(), Fail> {
     let low = Mark::Number(-2_147_483_648);
     let high = Mark::Number(2_147_483_647);
     let exact = [
@@ -85,20 +91,18 @@ fn text_at_the_edge_of_its_room(rt: HostRuntime) {
         (Mark::LineEnd, true),
         (Mark::LineEnd, false),
     ];
-    prints(&rt, 12, 12, &exact, b"-2147483648\n");
+    prints(12, 12, &exact, b"-2147483648\n")?;
     prints(
-        &rt,
         10,
         12,
         &[(low, false), (high, true), (Mark::LineEnd, false)],
         b"2147483647",
-    );
+    )?;
     prints(
-        &rt,
         9,
         3,
         &[(Mark::Number(100), true), (Mark::LineEnd, false)],
         b"100",
-    );
-    prints(&rt, 0, 16, &[(Mark::LineEnd, false)], b"");
+    )?;
+    prints(0, 16, &[(Mark::LineEnd, false)], b"")
 }

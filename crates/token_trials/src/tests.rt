@@ -1,6 +1,5 @@
 use arithmetic::ledger::Ledger;
 use arithmetic::wrapped::Wrapped;
-use std::process::Abort;
 use std::test::Fail;
 use token::kinds::{Keyword, Sign};
 use token::lexer::Lexer;
@@ -46,20 +45,24 @@ fn mark(token: Token) -> u8 {
 }
 
 // A text has the tokens of these marks at these offsets; the end is said twice.
-fn reads(rt: &impl Abort, text: &[u8], marks: &[u8], offsets: &[usize]) {
+fn reads(text: &[u8], marks: &[u8], offsets: &[usize]) -> Result<(), Fail> {
     let mut lexer = Lexer::new(text);
     for (m, at) in marks.iter().zip(offsets.iter()) {
         let lexeme = lexer.next();
-        assert_eq!(rt; mark(lexeme.token), *m);
-        assert_eq!(rt; lexeme.offset, *at);
+        if mark(lexeme.token) != *m || lexeme.offset != *at {
+            return Err(Fail::new("another token"));
+        }
     }
-    let first = lexer.next();
-    assert_eq!(rt; mark(first.token), b'.');
-    assert_eq!(rt; first.offset, text.len());
-    let again = lexer.next();
-    assert_eq!(rt; mark(again.token), b'.');
-    assert_eq!(rt; again.offset, text.len());
-    assert_eq!(rt; super::count(text), marks.len());
+    for _ in 0..2 {
+        let end = lexer.next();
+        if mark(end.token) != b'.' || end.offset != text.len() {
+            return Err(Fail::new("no end"));
+        }
+    }
+    if super::count(text) != marks.len() {
+        return Err(Fail::new("another count"));
+    }
+    Ok(())
 }
 
 // Texts, the marks of their tokens, and their offsets.
@@ -100,10 +103,11 @@ const TEXTS: [(&[u8], &[u8], &[usize]); 29] = [
 ];
 
 #[test]
-fn texts(rt: HostRuntime) {
+fn texts() -> Result<(), Fail> {
     for (text, marks, offsets) in TEXTS {
-        reads(&rt, text, marks, offsets);
+        reads(text, marks, offsets)?;
     }
+    Ok(())
 }
 
 #[test]
@@ -119,11 +123,10 @@ fn words_of_numbers(rt: HostRuntime) {
 #[test]
 fn long_numbers(rt: HostRuntime) -> Result<(), Fail> {
     let mut digits = vec![in rt.alloc(); b'9'; 32768]?;
-    reads(&rt, &digits, b"d", &[0]);
+    reads(&digits, b"d", &[0])?;
     assert_eq!(rt; number_word::<Wrapped>(&digits), Some(-1));
     assert_eq!(rt; number_word::<Ledger>(&digits), Some(99999999));
     digits.push(b'A')?;
     assert_eq!(rt; number_word::<Ledger>(&digits), None);
-    reads(&rt, &digits, b"dn", &[0, 32768]);
-    Ok(())
+    reads(&digits, b"dn", &[0, 32768])
 }
