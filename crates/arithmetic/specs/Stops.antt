@@ -1,8 +1,8 @@
 -- The ledger word keeps the laws.
-use Rattle.std.specs.Prelude.{◌≡◌, ℕ, zero, suc, ◌+◌, ◌*◌, ◌<◌, ◌≤◌, min, ◌↔◌, ℤ, pos, negsuc, ◌+ℤ◌, ◌-ℤ◌, ◌*ℤ◌, ◌≤ℤ◌, ◌≢◌, refl}
+use Rattle.std.specs.Prelude.{◌≡◌, ℕ, zero, suc, ◌+◌, ◌≤◌, min, ◌↔◌, ℤ, pos, negsuc, ◌-ℤ◌, ◌≢◌}
 use Rattle.std.proofs.Common.{ap, ◌∙◌, sym, arith}
 use Rattle.std.proofs.lemmas.Int.{ints}
-use Rattle.arithmetic.specs.Words.{Words, Word, Lawful, less}
+use Rattle.arithmetic.specs.Words.{Word, Lawful, less}
 use Rattle.arithmetic.specs.Stopping.{stopped, stopping}
 
 -- below 0 no subtraction leads to 0

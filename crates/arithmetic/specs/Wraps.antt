@@ -1,9 +1,9 @@
 -- The wrapped word: the low 32 bits of a number of 64 are its wrap, and it keeps the laws.
-use Rattle.std.specs.Prelude.{◌≡◌, ℕ, zero, suc, ◌+◌, ◌-◌, ◌*◌, ◌%◌, ◌^◌, ◌<◌, ◌≤◌, ◌↔◌, ℤ, pos, negsuc, ◌+ℤ◌, ◌-ℤ◌, ◌*ℤ◌, neg_ℤ, ◌≤ℤ◌, FitsSigned, ◌≢◌, int_div, unsigned_abs, refl}
+use Rattle.std.specs.Prelude.{◌≡◌, ℕ, zero, suc, ◌+◌, ◌-◌, ◌%◌, ◌^◌, ◌<◌, ℤ, pos, negsuc, ◌+ℤ◌, ◌-ℤ◌, ◌*ℤ◌, ◌≤ℤ◌, FitsSigned, ◌≢◌, int_div, unsigned_abs, refl}
 use Rattle.std.proofs.Common.{ap, ◌∙◌, sym, arith, div-le_self, to_z, of_z}
 use Rattle.std.specs.Int.{int_rem_euclid, int_wrap, w32, w64}
 use Rattle.std.proofs.lemmas.Int.{ints, of_z-to_z, int_rem_euclid_is, int_wrap_fits, SFits-int_wrap, int_wrap-add_left, int_wrap-add_same, int_wrap-mul_right}
-use Rattle.arithmetic.specs.Words.{Words, Word, Lawful, less}
+use Rattle.arithmetic.specs.Words.{Lawful, less}
 use Rattle.arithmetic.specs.Wrapping.{wrapping}
 
 pub low_bits : (n : ℤ) → FitsSigned w64 n → to_z w32 (of_z w64 n % 2 ^ 32) ≡ int_wrap w32 n

@@ -1,5 +1,7 @@
 // Words of arithmetic: the trait by which all other crates know them, the four operations, written once over it,
 // and the two arithmetics that come with the part. It knows nothing of hosts, texts or programs.
+#![tactic(auto)]
+
 ghost use Rattle.std.specs.Prelude.{◌≡◌};
 ghost use Rattle.arithmetic.specs.Words.{Words, Lawful};
 

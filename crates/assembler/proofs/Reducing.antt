@@ -1,14 +1,14 @@
 -- Reducing: what the stacks hold, in plain lists.
-use Rattle.std.proofs.Common.{◌≡◌, ℕ, suc, ◌+◌, ◌<◌, ◌≤◌, min, Bool, true, false, cond, ltb, List, [], ◌∷◌, reverse, length, take, Some, None, Option, sym, refl, ap, ◌∙◌, subst, arith, MatchOption}
+use Rattle.std.proofs.Common.{◌≡◌, ℕ, suc, ◌<◌, ◌≤◌, Bool, true, false, cond, ltb, List, [], ◌∷◌, length, take, Some, None, Option, sym, refl, ap, ◌∙◌, arith, MatchOption}
 use Rattle.std.proofs.lemmas.Bool.Decides.{nat_tests}
-use Rattle.stack.proofs.Tops.{depth_is}
+use Rattle.std.proofs.lemmas.List.{length-reverse, length-take}
 use Rattle.stack.specs.declared.stack.Stack.{Stack}
 use Rattle.stack.specs.Entries.{entries, room}
 use Rattle.assembly.specs.declared.mark.Operator.{Operator}
 use Rattle.assembly.specs.declared.mark.Mark.{Mark}
 use Rattle.assembly.specs.declared.mark.Mark.TheVariants.{Blank, Open, Pending}
 use Rattle.assembly.specs.declared.mark.Relation.{Relation}
-use Rattle.assembly.specs.Plans.{Words, Plan, words, work, planned, plus, reduces, temporary, operation, reduce, reduced, pushed, push_cell}
+use Rattle.assembly.specs.Plans.{Words, Plan, work, planned, plus, reduces, temporary, operation, reduce, reduced, pushed, push_cell}
 use Rattle.assembler.specs.Views.{waiting_operator, Applies}
 
 module _ {A : Type 0} where
@@ -23,7 +23,7 @@ module _ {A : Type 0} where
 
   -- there are no more entries than there is room for
   pub entries_fit : (s : Stack A) → length (entries s) ≤ room s
-  entries_fit s = omega (arith, depth_is s.items.now s.len)
+  entries_fit s = omega (arith, length-reverse (take s.len s.items.now), length-take s.len s.items.now)
 
   -- with two entries taken there is room for one
   pub room_again : (n : ℕ) (x a b : A) (xs ys : List A) → length ys ≤ n → ys ≡ a ∷ b ∷ xs → pushed n x xs ≡ x ∷ xs

@@ -2,6 +2,8 @@
 // translator's table, one after another, on a code, a stack of operands, a stack of operators and a few numbers.
 // It knows the actions and the form of a word, and nothing of tokens, the grammar, names or limits: a name or a number comes
 // to it as a cell or as a symbol's index.
+#![tactic(auto)]
+
 pub mod assembler;
 pub mod making;
 pub mod word;

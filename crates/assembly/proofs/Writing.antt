@@ -1,5 +1,5 @@
 -- Words as they stand in memory: one more, and a jump that gets its address.
-use Rattle.std.proofs.Common.{◌≡◌, ℕ, zero, suc, pred, ◌+◌, ◌-◌, ◌<◌, ◌≤◌, min, Bool, true, false, cond, eqb, ltb, List, [], ◌∷◌, ◌++◌, map, reverse, length, set, replicate, sym, refl, ap, ◌∙◌, append_assoc, arith, eqb→eq, length-set}
+use Rattle.std.proofs.Common.{◌≡◌, ℕ, zero, suc, pred, ◌-◌, ◌<◌, ◌≤◌, min, Bool, true, false, cond, eqb, ltb, List, [], ◌∷◌, ◌++◌, map, reverse, length, set, replicate, sym, refl, ap, ◌∙◌, append_assoc, arith, eqb→eq, length-set}
 use mathlib.Core.List.{reverse_aux-eq}
 use lib.ListN.{length-map, length-reverse}
 use Rattle.std.proofs.lemmas.List.{set_at, set-append_left, set_past, map-set, map_push}

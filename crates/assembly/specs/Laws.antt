@@ -1,5 +1,5 @@
 -- The theorems about plans and drafts.
-use Rattle.std.specs.Prelude.{◌≡◌, ℕ, min}
+use Rattle.std.specs.Prelude.{ℕ, min}
 use Rattle.trees.specs.Trees.{Name}
 use Rattle.runs.specs.Code.{Layout}
 use Rattle.emission.specs.Draft.{Draft}

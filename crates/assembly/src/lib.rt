@@ -1,6 +1,8 @@
 // Code in the making as numbers in memory, a plan, and the draft of the definitions that it stands for. It holds no running
 // code but the entries of the operator stack; what is defined stands in specs/, and the functions here carry the theorems
 // about it.
+#![tactic(auto)]
+
 ghost use Rattle.assembly.specs.Laws.{Acts};
 
 pub mod mark;

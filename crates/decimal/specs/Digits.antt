@@ -1,5 +1,5 @@
 -- Numbers in plain decimals. `signed z` of the library is "-" where z is negative, and then its digits without leading zeros.
-use Rattle.std.specs.Prelude.{◌≡◌, ℕ, zero, suc, ◌+◌, ◌/◌, ◌%◌, ◌≤◌, Bool, cond, List, [], ◌∷◌, ◌++◌, length, take, drop, ℤ, nat_le}
+use Rattle.std.specs.Prelude.{ℕ, zero, suc, ◌+◌, ◌/◌, ◌%◌, cond, List, [], ◌∷◌, ◌++◌, length, take, drop, nat_le}
 pub use Rattle.std.specs.Fmt.{decimal, signed_decimal as signed}
 
 -- the last k digits of n, zeros in front where it has fewer

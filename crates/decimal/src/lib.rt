@@ -1,4 +1,6 @@
 // Numbers as plain decimals in lent bytes: how long one is, and how it is written. It knows nothing of hosts.
+#![tactic(auto)]
+
 ghost use Rattle.std.specs.Prelude.{◌≡◌, ℕ, ◌+◌, ◌-◌, ◌^◌, ◌<◌, ◌≤◌, List, [], ◌∷◌, ◌++◌, length, ℤ, nat_le};
 ghost use Rattle.decimal.specs.Digits.{decimal, signed, last_digits, overwritten, written};
 

@@ -1,6 +1,6 @@
 -- The translator refuses what the recogniser refuses.
-use Rattle.std.proofs.Common.{◌≡◌, ℕ, List, [], ◌∷◌, ◌++◌, sym, refl, ap, ◌∙◌}
-use mathlib.Core.Option.{Option, none, some, map}
+use Rattle.std.proofs.Common.{◌≡◌, ℕ, List, [], ◌∷◌, sym, refl, ap, ◌∙◌}
+use mathlib.Core.Option.{some, map}
 use Rattle.token.specs.Tokens.{Token}
 use Rattle.runs.specs.Code.{Layout}
 use Rattle.grammar.specs.Machine.{choose}

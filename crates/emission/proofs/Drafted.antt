@@ -1,9 +1,8 @@
 -- The words of a tree, with its labels by name, and the labels that it defines.
-use Rattle.std.proofs.Common.{ℕ, zero, suc, ◌+◌, List, [], ◌∷◌, ◌++◌, map}
-use Rattle.trees.specs.Trees.{Name, Expr, variable, literal, binary, Command, labelled, empty, assign, go_to, go_to_of, read, print, branch}
+use Rattle.std.proofs.Common.{ℕ, List, [], ◌∷◌, ◌++◌, map}
+use Rattle.trees.specs.Trees.{Name, Expr, Command, labelled, empty, assign, go_to, go_to_of, read, print, branch}
 use Rattle.runs.specs.declared.instruction.Instruction.TheVariants.{Bru, Lda, Sta, Sub}
-use Rattle.runs.specs.Source.{operators}
-use Rattle.runs.specs.Code.{Layout, temp, one, first_temporary, cell_of, operations, expression, then_at, else_at, past, size, branching, comparing, reading, printing}
+use Rattle.runs.specs.Code.{Layout, temp, one, expression, then_at, else_at, past, branching, comparing, reading, printing}
 use Rattle.emission.specs.Draft.{Word, fixed, jump, jump_zero, Definition}
 
 abbrev pub definition : Name → ℕ → Definition

@@ -4,16 +4,16 @@ use mathlib.Core.List.{reverse_aux}
 use mathlib.Core.Option.{Option, none, some, some-injective, none-ne-some}
 use lib.Dec.{eqb_refl}
 use Rattle.token.specs.Tokens.{Token}
-use Rattle.trees.specs.Trees.{Name, Operator, plus, minus, times, over}
+use Rattle.trees.specs.Trees.{Name, Operator}
 use Rattle.runs.specs.declared.instruction.Instruction.TheVariants.{Bru}
 use Rattle.runs.specs.Code.{Layout, first_temporary}
 use Rattle.grammar.specs.Tests.{is, is_name, is_number, spelling}
 use Rattle.grammar.specs.Machine.{Rows, stop, on, at_name, at_number, choose, go_on}
 use Rattle.grammar.proofs.Theorems.{run_append}
 use Rattle.limits.specs.Uses.{In, at_head, in_tail}
-use Rattle.emission.specs.Draft.{Word, fixed, Mark, pending, parenthesis, Work, work, Definition, Draft, words_of, here, patch, emit, operation, any, binds, reduce, reduced, loaded, ended, left_off}
-use Rattle.emission.specs.Actions.{Action, Nothing, DefineLabel, SetTarget, StoreTarget, KeepName, JumpToName, LoadName, FirstLabel, FurtherLabel, ReadName, SkipLine, PrintValue, EndLine, PushVariable, PushNumber, OpenGroup, CloseGroup, Plus, Minus, Times, Over, EndExpression, Greater, Equal, Less, BeginThen, BeginElse, EndElse, EndProgram, operate, perform}
-use Rattle.emission.specs.Table.{State, Next, Start, Label, LetWord, LetName, LetEnd, GoWord, ToWord, ToName, OfWord, OfNames, OfComma, ReadWord, ReadNames, ReadComma, PrintWord, PrintList, LeftSide, RightSide, ThenPart, ElsePart, Operand, AfterOperand, Group, Entry, table, returning, Return, entered, all_entered, Translator, translator, moved, follow, above, if_returning, draft_rows, translator_rows, draft_step, outset, translated}
+use Rattle.emission.specs.Draft.{Word, fixed, Mark, pending, parenthesis, Work, work, Definition, Draft, words_of, here, patch, operation, any, binds, reduce, reduced, loaded, ended, left_off}
+use Rattle.emission.specs.Actions.{Action, Nothing, DefineLabel, SetTarget, StoreTarget, KeepName, JumpToName, LoadName, FirstLabel, FurtherLabel, ReadName, SkipLine, PrintValue, EndLine, PushVariable, PushNumber, OpenGroup, CloseGroup, Plus, Minus, Times, Over, EndExpression, Greater, Equal, Less, BeginThen, BeginElse, EndElse, EndProgram, perform}
+use Rattle.emission.specs.Table.{State, Next, Start, Label, LetWord, LetName, LetEnd, GoWord, ToWord, ToName, OfWord, OfNames, OfComma, ReadWord, ReadNames, ReadComma, PrintWord, PrintList, LeftSide, RightSide, ThenPart, ElsePart, Operand, AfterOperand, Group, Entry, table, returning, Return, entered, all_entered, Translator, translator, follow, above, if_returning, draft_rows, translator_rows, draft_step, outset, translated}
 use Rattle.emission.specs.Growth.{word_at, waits, waiting, Stays, as_it_was, lands, Onward, Later}
 use Rattle.emission.proofs.Sizes.{patch_length}
 

@@ -1,7 +1,7 @@
 -- The translator is the machine of the grammar with its trees put into code.
 use Rattle.token.specs.declared.kinds.Keyword.TheVariants.{Else}
 use Rattle.token.specs.declared.kinds.Sign.TheVariants as sign_of
-use Rattle.std.proofs.Common.{◌≡◌, ℕ, zero, suc, pred, ◌+◌, List, [], ◌∷◌, ◌++◌, map, length, sym, refl, ap, ◌∙◌, append_assoc, arith, length-append}
+use Rattle.std.proofs.Common.{◌≡◌, ℕ, suc, ◌+◌, List, [], ◌∷◌, ◌++◌, map, length, sym, refl, ap, ◌∙◌, append_assoc, arith}
 use mathlib.Core.List.{reverse_aux}
 use mathlib.Core.Option
 use mathlib.Core.Option.{Option, none, some}
@@ -10,15 +10,14 @@ use Rattle.token.specs.Tokens.{Token, keyword, sign}
 use Rattle.trees.specs.Trees.{Name, plus, minus, times, over, Relation, Expr, variable, literal, binary, Command, branch}
 use Rattle.runs.specs.declared.instruction.Instruction.TheVariants.{Bru, Lda, Sta, Sub, Read, Convert, Newline, Stop}
 use Rattle.runs.specs.Source.{cost}
-use Rattle.runs.specs.Code.{Layout, expression, temp, one, branching, comparing, reads, values, size, then_at, else_at, past, tests}
-use Rattle.grammar.specs.Concrete.{Factor, Sum, sole, then, Names, Sums, Statement, label, nil, set, jump, pick, read_none, read_some, print_none, print_some, test, Statements, factor_tree, sum_tree, head, tail, same_name, command_tree}
-use Rattle.grammar.specs.Machine.{InCommands, first_command, after_commands, under_label, then_part, else_part, BeforeFactor, InCommand, of_assign, of_left, of_right, of_print, of_prints, of_group, Config, start, labelling, let_word, let_name, go_word, to_word, to_name, of_word, of_names, of_comma, read_word, read_names, read_comma, print_word, operand, after, done, Rows, stop, on, at_name, at_number, finish, more_print, leave, fresh, rows, whole_of, run, begun}
+use Rattle.runs.specs.Code.{Layout, expression, temp, one, branching, comparing, reads, values, size, then_at, else_at, past}
+use Rattle.grammar.specs.Concrete.{Sum, sole, then, Names, Sums, Statement, label, nil, set, jump, pick, read_none, read_some, print_none, print_some, test, Statements, factor_tree, sum_tree, head, tail, same_name, command_tree}
+use Rattle.grammar.specs.Machine.{InCommands, first_command, after_commands, under_label, then_part, else_part, InCommand, of_assign, of_left, of_right, of_print, of_prints, of_group, Config, start, labelling, let_word, let_name, go_word, to_word, to_name, of_word, of_names, of_comma, read_word, read_names, read_comma, print_word, operand, after, done, Rows, stop, on, finish, more_print, leave, fresh, rows, whole_of, run, begun}
 use Rattle.grammar.proofs.Erase.{map_rows, run_map}
-use Rattle.emission.specs.Draft.{Word, fixed, jump_zero, Mark, Work, work, idle, Definition, Draft, draft, no_target, no_name, no_relation, plain, here, patch, land, push, opened, closed, ended}
-use Rattle.emission.specs.Actions.{perform}
+use Rattle.emission.specs.Draft.{Word, fixed, jump_zero, Work, idle, Definition, Draft, draft, no_target, no_name, no_relation, plain, here, patch, push, opened, closed, ended}
 use Rattle.emission.specs.Table.{State, Next, Start, Label, LetWord, LetName, LetEnd, GoWord, ToWord, ToName, OfWord, OfNames, OfComma, ReadWord, ReadNames, ReadComma, PrintWord, PrintList, LeftSide, RightSide, ThenPart, ElsePart, Operand, AfterOperand, Group, Return, entered, Translator, translator, draft_rows, translator_rows, translated}
 use Rattle.emission.proofs.Drafted.{definition, definitions_of, testing, whole, drafted}
-use Rattle.emission.proofs.Works.{onto_append, map_append, with_expr, before_term, before_factor, Low, at_bottom, at_parenthesis, term_reduced, whole_reduced, whole_ended}
+use Rattle.emission.proofs.Works.{onto_append, map_append, with_expr, before_factor, Low, at_bottom, at_parenthesis, term_reduced, whole_reduced, whole_ended}
 use Rattle.emission.proofs.Sizes.{drafted_size, whole_size, patch_onto}
 
 module _ (y : Layout) where

@@ -1,10 +1,10 @@
 -- What every action keeps holds of every translator; so do the bounds of the operands.
-use Rattle.std.proofs.Common.{◌≡◌, ℕ, zero, suc, ◌+◌, ◌<◌, Bool, true, false, cond, ◌⊎◌, List, [], ◌∷◌, sym, refl, ap, ◌∙◌, subst, inl, inr, arith}
+use Rattle.std.proofs.Common.{◌≡◌, ℕ, suc, ◌+◌, ◌<◌, Bool, true, false, cond, ◌⊎◌, List, [], ◌∷◌, refl, subst, inl, inr, arith}
 use mathlib.Core.Option.{Option, none, some, some-injective, none-ne-some}
 use Rattle.token.specs.Tokens.{Token}
 use Rattle.trees.specs.Trees.{Name, Operator}
 use Rattle.runs.specs.Code.{Layout, first_temporary}
-use Rattle.grammar.specs.Machine.{Rows, stop, on, at_name, at_number, choose, go_on}
+use Rattle.grammar.specs.Machine.{Rows, stop, on, at_name, at_number, go_on}
 use Rattle.limits.specs.Uses.{In, in_tail}
 use Rattle.emission.specs.Draft.{Word, Mark, pending, parenthesis, Work, work, Draft, any, binds, operation, reduce, reduced, left_off, ended}
 use Rattle.emission.specs.Actions.{Action, Nothing, DefineLabel, SetTarget, StoreTarget, KeepName, JumpToName, LoadName, FirstLabel, FurtherLabel, ReadName, SkipLine, PrintValue, EndLine, PushVariable, PushNumber, OpenGroup, CloseGroup, Plus, Minus, Times, Over, EndExpression, Greater, Equal, Less, BeginThen, BeginElse, EndElse, EndProgram, perform}

@@ -1,7 +1,7 @@
 -- The tokens of a configuration, newest first, and how deep it is nested by them.
 use Rattle.token.specs.declared.kinds.Keyword.TheVariants.{End, Let, Go, To, Of, Read, Print, If, Then, Else}
 use Rattle.token.specs.declared.kinds.Sign.TheVariants.{Semicolon, Colon, Becomes, Open, Close, Comma}
-use Rattle.std.proofs.Common.{◌≡◌, ℕ, zero, suc, pred, ◌+◌, ◌<◌, ◌≤◌, List, [], ◌∷◌, reverse, length, sym, refl, ap, ◌∙◌, subst, append-nil, arith}
+use Rattle.std.proofs.Common.{◌≡◌, pred, List, [], ◌∷◌, reverse, sym, refl, ap, ◌∙◌, subst, append-nil}
 use mathlib.Core.List.{reverse_aux}
 use mathlib.Core.Option.{Option, none, some, map, some-injective, none-ne-some}
 use Rattle.token.specs.Tokens.{Token, name, keyword, sign}

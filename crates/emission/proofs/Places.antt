@@ -1,17 +1,16 @@
 -- Words by their addresses.
-use Rattle.std.proofs.Common.{◌≡◌, ℕ, zero, suc, ◌+◌, ◌<◌, ◌≤◌, Bool, true, false, cond, T, eqb, List, [], ◌∷◌, ◌++◌, map, reverse, length, sym, refl, ap, ◌∙◌, arith, eqb→eq}
-use mathlib.Core.List.{reverse_aux, reverse_aux-eq}
+use Rattle.std.proofs.Common.{◌≡◌, ℕ, zero, suc, ◌<◌, ◌≤◌, Bool, true, false, cond, eqb, List, [], ◌∷◌, ◌++◌, map, reverse, length, sym, refl, ap, ◌∙◌, arith, eqb→eq}
+use mathlib.Core.List.{reverse_aux-eq}
 use mathlib.Core.Option
 use mathlib.Core.Option.{Option, none, some}
 use lib.Dec.{eqb-zero-suc, eqb-suc-zero, eqb-suc-suc}
 use Rattle.std.proofs.lemmas.Bool.{eqb-false}
 use lib.ListN.{get_elem?, length-reverse}
-use Rattle.trees.specs.Trees.{Name}
 use Rattle.runs.specs.declared.instruction.Instruction.TheVariants.{Bru}
 use Rattle.emission.specs.Draft.{Word, fixed, Draft, words_of, patch, label_address, resolved, settled}
 use Rattle.emission.specs.Growth.{word_at}
 use Rattle.emission.proofs.Sizes.{patch_length}
-use Rattle.emission.proofs.Grows.{skipped, at_newest, at_older}
+use Rattle.emission.proofs.Grows.{skipped}
 
 pub beyond : (ws : List Word) (a : ℕ) → length ws ≤ a → word_at a ws ≡ none
 beyond [] a h = refl

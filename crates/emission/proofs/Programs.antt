@@ -1,21 +1,19 @@
 -- The draft of a whole program.
-use Rattle.std.proofs.Common.{◌≡◌, ℕ, zero, suc, pred, ◌+◌, Bool, true, false, cond, List, [], ◌∷◌, ◌++◌, map, reverse, length, sym, refl, ap, ◌∙◌, subst, append_assoc, append-nil, arith, length-append}
+use Rattle.std.proofs.Common.{◌≡◌, ℕ, ◌+◌, List, [], ◌∷◌, ◌++◌, map, length, sym, refl, ap, ◌∙◌, subst, append_assoc, append-nil, arith}
 use mathlib.Core.List.{reverse_aux}
 use mathlib.Core.Option
 use mathlib.Core.Option.{Option, none, some, some-injective, none-ne-some}
 use lib.ListN.{length-reverse_aux}
 use Rattle.token.specs.Tokens.{Token}
-use Rattle.trees.specs.Trees.{Name, Command, labelled, empty, assign, go_to, go_to_of, read, print, branch, Program, commands}
-use Rattle.runs.specs.declared.instruction.Instruction.{Instruction}
+use Rattle.trees.specs.Trees.{Name, Command, labelled, empty, assign, go_to, go_to_of, read, print, branch, Program}
 use Rattle.runs.specs.declared.instruction.Instruction.TheVariants.{Stop}
 use Rattle.runs.specs.Machine.{encode}
-use Rattle.runs.specs.Code.{Layout, size, sizes, program_size, then_at, else_at, locate, locate_all, address_of, code, codes, instructions, code_of}
+use Rattle.runs.specs.Code.{Layout, size, sizes, then_at, else_at, locate, locate_all, address_of, codes, instructions}
 use Rattle.grammar.specs.Grammar.{Parses, IsProgram}
 use Rattle.grammar.specs.Concrete.{sole, then, Statements, head, tail, command_tree, program_tree}
-use Rattle.grammar.specs.Machine.{Config, start, labelling, let_word, let_name, go_word, to_word, to_name, of_word, of_names, of_comma, read_word, read_names, read_comma, print_word, operand, after, done, run, begun, parse}
 use Rattle.grammar.proofs.Theorems.{accepts_sound, done_complete}
-use Rattle.emission.specs.Draft.{Word, fixed, Definition, Draft, idle, plain, words_of, address_in, label_address, resolved, settled}
-use Rattle.emission.specs.Table.{Return, Translator, translator, translated}
+use Rattle.emission.specs.Draft.{Word, fixed, Definition, Draft, idle, plain, address_in, label_address, resolved, settled}
+use Rattle.emission.specs.Table.{Translator, translator, translated}
 use Rattle.emission.specs.Control.{control_in}
 use Rattle.emission.specs.Laws.{Whole}
 use Rattle.emission.proofs.Drafted.{definitions_of, drafted}

@@ -1,28 +1,28 @@
 -- The stacks of the translator are no deeper than operators, parentheses and IFs say.
 use Rattle.token.specs.declared.kinds.Keyword.TheVariants.{Let, Go, To, Of, Read, Print, If, Then}
 use Rattle.token.specs.declared.kinds.Sign.TheVariants.{Becomes, Open, Comma}
-use Rattle.std.proofs.Common.{◌≡◌, ℕ, zero, suc, pred, ◌+◌, ◌<◌, ◌≤◌, Bool, true, false, cond, List, [], ◌∷◌, reverse, length, take, refl, ap, ◌∙◌, inl, inr, zero-le, arith}
+use Rattle.std.proofs.Common.{◌≡◌, ℕ, zero, suc, ◌+◌, ◌<◌, ◌≤◌, Bool, true, false, cond, List, [], ◌∷◌, reverse, length, take, refl, ap, ◌∙◌, inl, inr, zero-le, arith}
 use mathlib.Core.Option.{some}
 use Rattle.std.proofs.lemmas.Bool.{cases_lt}
 use Rattle.token.specs.Tokens.{Token, name, keyword, sign}
-use Rattle.trees.specs.Trees.{Name, Operator, Relation, Expr, variable, literal, binary}
+use Rattle.trees.specs.Trees.{Operator, Expr, variable, literal, binary}
 use Rattle.arithmetic.specs.Words.{Words}
 use Rattle.runs.specs.Source.{operators as count}
 use Rattle.runs.specs.Code.{Layout}
 use Rattle.grammar.specs.Grammar.{relation_sign}
-use Rattle.grammar.specs.Concrete.{AddSign, adds, takes, MulSign, multiplies, divides, Factor, var, lit, group, Term, factor, multiply, Sum, term, add, sole, then, Names, Sums, Statement, add_sign, mul_sign, name_t, add_operator, mul_operator, factor_tree, term_tree, sum_tree}
+use Rattle.grammar.specs.Concrete.{AddSign, adds, takes, MulSign, multiplies, divides, Factor, var, lit, group, Term, factor, multiply, Sum, term, add, add_sign, mul_sign, add_operator, mul_operator, factor_tree, term_tree, sum_tree}
 use Rattle.grammar.specs.Machine.{InCommands, first_command, after_commands, under_label, then_part, else_part, BeforeTerm, no_sum, sum, BeforeFactor, no_product, product, InCommand, of_assign, of_left, of_right, of_print, of_prints, of_group, Config, start, labelling, let_word, let_name, go_word, to_word, to_name, of_word, of_names, of_comma, read_word, read_names, read_comma, print_word, operand, after, done}
 use Rattle.limits.specs.Uses.{is_operator, in_expression, operators, depth, parts}
 use Rattle.limits.specs.Rules.{operator_limit, past, rest, Rule, many_operators}
 use Rattle.limits.proofs.Lists.{take_end, past_next}
-use Rattle.limits.proofs.Scans.{factor_b, term_b, sum_b, left_b, statement_b}
+use Rattle.limits.proofs.Scans.{factor_b, term_b, sum_b, left_b}
 use Rattle.limits.proofs.Configs.{nested}
 use Rattle.emission.specs.Draft.{Word, Work, idle, push, opened}
 use Rattle.emission.specs.Table.{Translator, translated}
 use Rattle.emission.specs.Room.{Sized, Within}
 use Rattle.emission.proofs.Works.{with_expr, before_term, before_factor}
-use Rattle.emission.proofs.Image.{words_in, work_of, returns_in, returns_of, image}
-use Rattle.emission.proofs.Pasts.{past_c, past_t, past_f, past_e, past_of, reached, mul_parts, add_parts, relation_parts, factor_parts, term_parts, sum_parts, names_parts, sums_parts, if_parts, statement_parts, past_t_parts, past_f_parts}
+use Rattle.emission.proofs.Image.{work_of, returns_in, returns_of, image}
+use Rattle.emission.proofs.Pasts.{past_c, past_t, past_f, past_e, past_of, reached, mul_parts, add_parts, relation_parts, factor_parts, term_parts, sum_parts, names_parts, sums_parts, if_parts, statement_parts, past_f_parts}
 
 -- Operators of the tokens of an expression.
 mul_count : (o : MulSign) (b : List Token) → operators (mul_sign o ∷ b) ≡ suc (operators b)

@@ -1,13 +1,13 @@
 -- The words of a tree settle to its code, and are as many; a jump before them can be patched.
-use Rattle.std.proofs.Common.{◌≡◌, ℕ, zero, suc, pred, ◌+◌, Bool, true, false, cond, T, eqb, List, [], ◌∷◌, ◌++◌, map, reverse, length, sym, refl, ap, ◌∙◌, arith, eqb→eq, length-append}
+use Rattle.std.proofs.Common.{◌≡◌, ℕ, suc, Bool, true, false, cond, T, eqb, List, [], ◌∷◌, ◌++◌, map, reverse, length, sym, refl, ap, ◌∙◌, arith, eqb→eq, length-append}
 use mathlib.Core.List.{reverse_aux, reverse_aux-eq}
 use lib.Dec.{eqb_refl}
-use lib.ListN.{length-map, length-reverse_aux}
+use lib.ListN.{length-map}
 use Rattle.trees.specs.Trees.{Name, Expr, Command, labelled, empty, assign, go_to, go_to_of, read, print, branch}
 use Rattle.runs.specs.declared.instruction.Instruction.{Instruction}
-use Rattle.runs.specs.declared.instruction.Instruction.TheVariants.{Bru, Lda, Sta, Sub}
+use Rattle.runs.specs.declared.instruction.Instruction.TheVariants.{Bru}
 use Rattle.runs.specs.Source.{cost}
-use Rattle.runs.specs.Code.{Layout, expression, size, then_at, else_at, past, reading, printing, tests, code}
+use Rattle.runs.specs.Code.{Layout, expression, size, then_at, else_at, reading, printing, tests, code}
 use Rattle.runs.proofs.Sound.{expr_size, code_size}
 use Rattle.emission.specs.Draft.{Word, fixed, patch, resolved}
 use Rattle.emission.proofs.Drafted.{testing, whole, drafted}

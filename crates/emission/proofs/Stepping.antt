@@ -1,5 +1,5 @@
 -- A step, by the entry of the state on top.
-use Rattle.std.proofs.Common.{◌≡◌, ℕ, Bool, true, false, cond, List, [], ◌∷◌, sym, refl, ap, ◌∙◌}
+use Rattle.std.proofs.Common.{◌≡◌, ℕ, Bool, true, false, cond, List, [], ◌∷◌, refl, ap, ◌∙◌}
 use mathlib.Core.Option.{Option, none, some}
 use Rattle.token.specs.Tokens.{Token, name, number, keyword, sign, other}
 use Rattle.trees.specs.Trees.{Name}
@@ -8,7 +8,7 @@ use Rattle.grammar.specs.Tests.{is, is_name, is_number, spelling}
 use Rattle.grammar.specs.Machine.{Rows, stop, on, at_name, at_number, choose}
 use Rattle.emission.specs.Draft.{Draft}
 use Rattle.emission.specs.Actions.{Action, perform}
-use Rattle.emission.specs.Table.{State, Entry, table, returning, Return, Translator, translator, follow, above, if_returning, draft_rows, draft_step, Move, refuse, leave, enter, decided, move}
+use Rattle.emission.specs.Table.{Entry, table, returning, Return, Translator, translator, follow, above, if_returning, draft_rows, draft_step, Move, refuse, leave, enter, decided, move}
 
 module _ (y : Layout) where
   abbrev or_else : Option Entry → ℕ → Name → List Return → Draft → Option Translator → Option Translator

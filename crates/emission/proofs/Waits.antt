@@ -1,8 +1,7 @@
 -- What holds of each translator that tokens lead to: a jump that waits leads nowhere yet, and the current state is the recogniser's.
 use Rattle.grammar.specs.declared.state.State.{State as Recognised}
 use Rattle.grammar.specs.declared.state.State.TheVariants as recognised
-use Rattle.std.proofs.Common.{◌≡◌, ℕ, suc, pred, ◌+◌, List, [], ◌∷◌, map, length, refl, ap, ◌∙◌, inl, inr}
-use mathlib.Core.List.{reverse_aux}
+use Rattle.std.proofs.Common.{◌≡◌, ℕ, suc, ◌+◌, List, [], ◌∷◌, map, length, refl, ap, ◌∙◌, inl, inr}
 use mathlib.Core.Option.{some}
 use Rattle.token.specs.Tokens.{Token}
 use Rattle.trees.specs.Trees.{Relation, Expr, variable, literal, binary}
@@ -18,7 +17,7 @@ use Rattle.emission.specs.Growth.{word_at, waiting, Stays, as_it_was, lands, Onw
 use Rattle.emission.proofs.Drafted.{whole, drafted}
 use Rattle.emission.proofs.Works.{with_expr, before_term, before_factor}
 use Rattle.emission.proofs.Grows.{at_newest, at_within, in_split, in_none, onward_same, onward_more, onward_word, onward_words}
-use Rattle.emission.proofs.Image.{reading_left, picking_left, printing_left, left_words, test_words, then_words, else_words, words_in, returns_in, place_of, work_of, returns_of, image}
+use Rattle.emission.proofs.Image.{reading_left, picking_left, printing_left, left_words, test_words, then_words, else_words, words_in, returns_in, work_of, returns_of, image}
 use Rattle.emission.proofs.Pasts.{reached}
 
 -- words that only have more in front

@@ -1,14 +1,14 @@
 -- The two stacks make the code of the tree.
-use Rattle.std.proofs.Common.{◌≡◌, ℕ, zero, suc, ◌+◌, Bool, true, false, cond, List, [], ◌∷◌, ◌++◌, map, sym, refl, ap, ◌∙◌, arith}
+use Rattle.std.proofs.Common.{◌≡◌, ℕ, suc, ◌+◌, Bool, true, false, cond, List, [], ◌∷◌, ◌++◌, map, sym, refl, ap, ◌∙◌, arith}
 use mathlib.Core.List.{reverse_aux}
-use Rattle.trees.specs.Trees.{Operator, plus, minus, times, over, Expr, variable, literal, binary}
+use Rattle.trees.specs.Trees.{Operator, Expr, variable, literal, binary}
 use Rattle.runs.specs.declared.instruction.Instruction.{Instruction}
 use Rattle.runs.specs.declared.instruction.Instruction.TheVariants.{Lda, Sta}
 use Rattle.runs.specs.Source.{operators}
-use Rattle.runs.specs.Code.{Layout, first_temporary, operating, cell_of, operations, expression}
-use Rattle.grammar.specs.Concrete.{AddSign, adds, takes, MulSign, multiplies, divides, Factor, Term, factor, multiply, Sum, term, add, add_operator, mul_operator, factor_tree, term_tree, sum_tree}
+use Rattle.runs.specs.Code.{Layout, first_temporary, operating, cell_of, operations}
+use Rattle.grammar.specs.Concrete.{AddSign, adds, takes, MulSign, multiplies, divides, Factor, Term, factor, multiply, add_operator, mul_operator, factor_tree, term_tree, sum_tree}
 use Rattle.grammar.specs.Machine.{BeforeTerm, no_sum, sum, BeforeFactor, no_product, product, term_of, sum_before, add_to, whole_of}
-use Rattle.emission.specs.Draft.{Word, fixed, Mark, pending, parenthesis, Work, work, idle, any, binds, operation, reduce, reduced, push, operand, opened, ended}
+use Rattle.emission.specs.Draft.{Word, fixed, Mark, parenthesis, Work, work, idle, any, binds, operation, reduce, reduced, push, operand, ended}
 use Rattle.emission.proofs.Drafted.{whole}
 
 -- Lists put behind others, newest first.

@@ -1,9 +1,9 @@
 -- What each action does to a draft.
-use Rattle.std.specs.Prelude.{ℕ, suc, pred, ◌+◌, List, [], ◌∷◌}
+use Rattle.std.specs.Prelude.{ℕ, ◌+◌, [], ◌∷◌}
 use Rattle.trees.specs.Trees.{Name, Operator, plus, minus, times, over, Relation, greater, equal, less}
-use Rattle.runs.specs.declared.instruction.Instruction.TheVariants.{Bru, Brz, Lda, Sta, Sub, Read, Convert, Newline, Stop}
+use Rattle.runs.specs.declared.instruction.Instruction.TheVariants.{Bru, Lda, Sta, Sub, Read, Convert, Newline, Stop}
 use Rattle.runs.specs.Code.{Layout, temp, one, branching, comparing}
-use Rattle.emission.specs.Draft.{Word, fixed, jump, jump_zero, Definition, Draft, draft, no_target, no_name, no_relation, here, with_work, emit, land, any, binds, reduced, push, operand, opened, closed, ended}
+use Rattle.emission.specs.Draft.{fixed, jump, jump_zero, Draft, draft, no_target, no_name, no_relation, here, with_work, emit, land, any, binds, reduced, push, operand, opened, closed, ended}
 pub use Rattle.emission.specs.declared.action.Action.{Action}
 pub use Rattle.emission.specs.declared.action.Action.TheVariants.{Nothing, DefineLabel, SetTarget, StoreTarget, KeepName, JumpToName, LoadName, FirstLabel, FurtherLabel, ReadName, SkipLine, PrintValue, EndLine, PushVariable, PushNumber, OpenGroup, CloseGroup, Plus, Minus, Times, Over, EndExpression, Greater, Equal, Less, BeginThen, BeginElse, EndElse, EndProgram}
 

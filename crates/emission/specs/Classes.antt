@@ -1,8 +1,6 @@
 -- The classes of tokens that the table tells apart, and its moves as the code has them.
 use Rattle.token.specs.declared.kinds.Keyword.TheVariants as keyword_of
-use Rattle.token.specs.declared.kinds.Keyword.{Keyword}
 use Rattle.token.specs.declared.kinds.Sign.TheVariants as sign_of
-use Rattle.token.specs.declared.kinds.Sign.{Sign}
 use Rattle.std.specs.Prelude.{ℕ, ◌+◌, List, [], ◌∷◌, Some, None, codes, Option, slice_index_or}
 use Rattle.token.specs.Tokens.{Token, name, number, keyword, sign, other}
 use Rattle.grammar.specs.Tests.{keyword_code, sign_code}

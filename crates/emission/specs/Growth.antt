@@ -3,7 +3,7 @@ use Rattle.std.specs.Prelude.{◌≡◌, ℕ, pred, ◌<◌, ◌≤◌, Bool, tr
 use Rattle.std.proofs.Math.Option.{Option, none, some}
 use Rattle.runs.specs.declared.instruction.Instruction.TheVariants.{Bru}
 use Rattle.limits.specs.Uses.{In}
-use Rattle.emission.specs.Draft.{Word, fixed, Definition, Draft, words_of, here}
+use Rattle.emission.specs.Draft.{Word, fixed, Definition, words_of, here}
 use Rattle.emission.specs.Table.{State, Next, Start, Label, LetWord, LetName, LetEnd, GoWord, ToWord, ToName, OfWord, OfNames, OfComma, ReadWord, ReadNames, ReadComma, PrintWord, PrintList, LeftSide, RightSide, ThenPart, ElsePart, Operand, AfterOperand, Group, Return, Translator}
 
 -- the word at an address; words are newest first

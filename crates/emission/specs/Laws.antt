@@ -1,7 +1,7 @@
 -- The theorems about emission.
 use Rattle.grammar.specs.declared.state.State.{State as Recognised}
-use Rattle.std.specs.Prelude.{◌≡◌, ℕ, suc, pred, ◌+◌, ◌<◌, ◌≤◌, true, false, List, [], ◌∷◌, ◌++◌, reverse, length, take, ◌≢◌}
-use Rattle.std.proofs.Math.Option.{Option, none, some, map}
+use Rattle.std.specs.Prelude.{◌≡◌, ℕ, suc, ◌<◌, ◌≤◌, true, false, List, [], ◌∷◌, ◌++◌, reverse, length, take, ◌≢◌}
+use Rattle.std.proofs.Math.Option.{none, some, map}
 use Rattle.std.proofs.Math.ListN.{get_elem?}
 use Rattle.token.specs.Tokens.{Token, name, number, other}
 use Rattle.trees.specs.Trees.{Name, Program}
@@ -16,7 +16,7 @@ use Rattle.limits.specs.Rules.{Rule}
 use Rattle.emission.specs.Draft.{Word, fixed, idle, Definition, Draft, plain, words_of, here, address_in, label_address, patch, resolved, settled, settled_words}
 use Rattle.grammar.specs.Recogniser.{stack_step, reach}
 use Rattle.emission.specs.Actions.{Action, perform}
-use Rattle.emission.specs.Table.{State, Start, Entry, Return, Translator, translator, follow, draft_step, translated, Move, refuse, leave, enter, move}
+use Rattle.emission.specs.Table.{State, Start, Entry, Return, Translator, translator, follow, draft_step, translated, refuse, leave, enter, move}
 use Rattle.emission.specs.Classes.{class, class_move}
 use Rattle.emission.specs.Control.{control_of, control_in}
 use Rattle.emission.specs.Growth.{word_at, waiting, Later}

@@ -1,11 +1,9 @@
 -- Small texts, put into code word by word.
-use Rattle.std.specs.Prelude.{◌≡◌, ℕ, cond, List, [], ◌∷◌, codes}
+use Rattle.std.specs.Prelude.{◌≡◌, ℕ, List, [], ◌∷◌, codes}
 use Rattle.std.proofs.Math.Option.{Option, none, some, map}
 use Rattle.token.specs.Lexis.{tokens}
-use Rattle.trees.specs.Trees.{Name, Program}
 use Rattle.runs.specs.declared.instruction.Instruction.{Instruction}
-use Rattle.runs.specs.declared.instruction.Instruction.TheVariants.{Bru, Brz, Brn, Brp, Ada, Sub, Mul, Div, Lda, Sta, Read, Convert, Newline, Stop}
-use Rattle.runs.specs.Names.{same}
+use Rattle.runs.specs.declared.instruction.Instruction.TheVariants.{Bru, Brz, Brn, Brp, Ada, Sub, Mul, Lda, Sta, Read, Convert, Newline, Stop}
 use Rattle.runs.specs.Code.{Layout}
 use Rattle.limits.specs.Rules.{tokens_of}
 use Rattle.emission.specs.Draft.{settled}

@@ -1,6 +1,8 @@
 // Emission: the code of a program, made in one pass over its tokens by a table of states and actions. It knows tokens, the
 // grammar, the limits, trees and their code.
 // What is defined stands in specs/; the functions here carry the theorems about it.
+#![tactic(auto)]
+
 ghost use Rattle.emission.specs.Laws.{Addresses, ByAddress, Exact, Follows, Roomy, Stable, Standing, Steps};
 ghost use Rattle.emission.specs.Layouts.{Known};
 ghost use Rattle.emission.specs.Samples.{Samples};

@@ -1,5 +1,5 @@
 -- The refusals by their numbers, and the form in which a fault is shown.
-use Rattle.std.specs.Prelude.{ℕ, List, [], ◌∷◌, ◌++◌, codes, decimal}
+use Rattle.std.specs.Prelude.{ℕ, List, ◌++◌, codes, decimal}
 use Rattle.fault.specs.declared.Fault.{Fault}
 pub use Rattle.fault.specs.declared.Refusal.{Refusal}
 pub use Rattle.fault.specs.declared.Refusal.TheVariants.{ShortMemory, LongText, NoProgram, LongName, DuplicateLabel, MixedKind, TooManyCells, TooManyLabels, TooManyOperators, TooDeep, TooManyTargets, MissingLabel, LongCode, NothingLoaded, BadBudget, RunClosed, BadLine, Corrupt, ShortOutput}

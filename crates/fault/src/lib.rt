@@ -1,5 +1,7 @@
 // What a call answers when it refuses: which refusal, by its number, and the place in the text that it concerns.
 // Every layer hands a fault on unchanged.
+#![tactic(auto)]
+
 ghost use Rattle.std.specs.Prelude.{◌≡◌, Some};
 ghost use Rattle.fault.specs.Refusals.{numbered, refused_form};
 

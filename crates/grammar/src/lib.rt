@@ -1,5 +1,7 @@
 // The grammar: which lists of tokens are programs, and of which tree. It knows tokens and trees and nothing else.
 // What is defined stands in specs/; the functions here carry the theorems about it.
+#![tactic(auto)]
+
 ghost use Rattle.grammar.specs.Laws.{OneReading, Parser, Exact, Viable, OneFault, Steps};
 
 pub mod state;

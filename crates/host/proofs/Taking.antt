@@ -1,7 +1,7 @@
 -- One line taken, one mark printed: facts on plain lists.
-use Rattle.std.proofs.Common.{◌≡◌, ℕ, zero, suc, ◌+◌, ◌-◌, ◌<◌, ◌≤◌, Bool, true, false, cond, leb, List, [], ◌∷◌, ◌++◌, length, get_or, take, drop, set, ℤ, pos, Some, None, Option, sym, refl, ap, ◌∙◌, le_of_suc-le-suc, not-suc-le-zero, add-one, arith, length-set, drop-cons, le-leb}
+use Rattle.std.proofs.Common.{◌≡◌, ℕ, zero, suc, ◌+◌, ◌-◌, ◌<◌, ◌≤◌, true, false, cond, List, [], ◌∷◌, ◌++◌, length, get_or, take, drop, set, ℤ, pos, Some, None, sym, refl, ap, ◌∙◌, le_of_suc-le-suc, not-suc-le-zero, add-one, arith, length-set, drop-cons, le-leb}
 use Rattle.std.proofs.lemmas.List.{take_more_set}
-use Rattle.host.specs.Meaning.{Meaning, meaning, Mark, first, rest, taken, marked, fits, short}
+use Rattle.host.specs.Meaning.{Meaning, meaning, Mark, first, rest, taken, marked, short}
 use Rattle.host.specs.Trays.{up_to_long}
 
 pub drop_end : {X : Type 0} (xs : List X) (n : ℕ) → length xs ≤ n → drop n xs ≡ []

@@ -1,6 +1,6 @@
 -- What a tray means.
 use Rattle.std.specs.Prelude.{◌≡◌, ℕ, ◌-◌, ◌≤◌, Bool, true, false, cond, List, [], ◌∷◌, length, take, drop, ℤ, refl}
-use Rattle.std.proofs.Common.{sym, ap, ◌∙◌, le_refl, le_trans, arith}
+use Rattle.std.proofs.Common.{◌∙◌, le_refl, le_trans, arith}
 use Rattle.host.specs.Parts.{take_earlier, drop_later}
 use Rattle.host.specs.Meaning.{Meaning, meaning, Mark, short, ShortLines, Light}
 use Rattle.host.specs.declared.tray.Tray.{Tray}

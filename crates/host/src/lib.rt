@@ -1,5 +1,7 @@
 // Hosts: what supplies input lines and takes printed marks. The trait by which all other crates know them, and the two
 // that come with the part. It knows nothing of words of arithmetic, of texts of programs or of machines.
+#![tactic(auto)]
+
 ghost use Rattle.std.specs.Prelude.{◌≡◌, ℕ, is_ok};
 ghost use Rattle.host.specs.Meaning.{Meaning, Mark as Printed, number, line_end, first, taken, fits, marked, ShortLines, Light};
 

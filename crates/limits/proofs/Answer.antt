@@ -2,7 +2,7 @@
 use Rattle.std.proofs.Common.{◌≡◌, ℕ, ◌<◌, ◌≤◌, Bool, true, false, cond, ltb, List, [], drop, sym, refl, ap, ◌∙◌, subst, inl, inr, zero-le, arith}
 use mathlib.Core.Option.{Option, none, some, none-ne-some}
 use Rattle.std.proofs.lemmas.Bool.{ltb-true, ltb-false, cases_order}
-use Rattle.token.specs.Tokens.{Token, number, Placed}
+use Rattle.token.specs.Tokens.{Token, Placed}
 use Rattle.trees.specs.Trees.{Program}
 use Rattle.arithmetic.specs.Words.{Words}
 use Rattle.grammar.specs.Grammar.{IsProgram}

@@ -5,12 +5,12 @@ use mathlib.Core.Option.{Option, none, some}
 use lib.ListN.{length-reverse}
 use Rattle.std.proofs.lemmas.Bool.{eq-eqb, ne_eqb}
 use Rattle.grammar.proofs.Faults as faults
-use Rattle.token.specs.Tokens.{Token, number, Placed}
+use Rattle.token.specs.Tokens.{Token, Placed}
 use Rattle.arithmetic.specs.Words.{Words}
 use Rattle.grammar.specs.Grammar.{Fault}
 use Rattle.grammar.specs.Recogniser.{stack_step, outset, reach, first_fault}
 use Rattle.grammar.proofs.Faults.{some_fault, program_none, fault_some}
-use Rattle.limits.specs.Rules.{tokens_of, place, Refused}
+use Rattle.limits.specs.Rules.{tokens_of, Refused}
 use Rattle.limits.specs.Refusals.{lowest, or_else, fault_at_lem, limit_checks, checks, refused, first_refusal}
 use Rattle.limits.specs.Pass.{or_fault, pass}
 use Rattle.limits.proofs.Search.{At, at_rest, at_next, at_start, drop_some}

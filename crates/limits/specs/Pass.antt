@@ -2,10 +2,10 @@
 use Rattle.grammar.specs.declared.state.State.{State}
 use Rattle.std.specs.Prelude.{ℕ, cond, List, [], ◌∷◌}
 use Rattle.std.proofs.Math.Option.{Option, none, some}
-use Rattle.token.specs.Tokens.{Token, number, Placed}
+use Rattle.token.specs.Tokens.{Token, Placed}
 use Rattle.arithmetic.specs.Words.{Words}
 use Rattle.grammar.specs.Recogniser.{stack_step, accepting}
-use Rattle.limits.specs.Rules.{past, tokens_of, place, Refused}
+use Rattle.limits.specs.Rules.{past, tokens_of, Refused}
 use Rattle.limits.specs.Refusals.{lowest, or_else, limit_checks, refused}
 
 -- refusal 3 at a place, unless the recogniser goes on

@@ -4,7 +4,7 @@ use Rattle.token.specs.declared.kinds.Sign.TheVariants.{Open}
 use Rattle.std.specs.Prelude.{ℕ, Bool, true, false, cond, not, ◌&&◌, ◌||◌, List, [], ◌∷◌, length, ◌==◌, nat_le, nat_lt}
 use Rattle.std.proofs.Math.Option.{Option, none, some}
 use Rattle.std.specs.Str.{bytes_eq}
-use Rattle.token.specs.Tokens.{Token, number, keyword, sign, Placed}
+use Rattle.token.specs.Tokens.{Token, keyword, sign, Placed}
 use Rattle.token.specs.Lexis.{tokens}
 use Rattle.trees.specs.Trees.{Program}
 use Rattle.arithmetic.specs.Words.{Words}
@@ -12,7 +12,7 @@ use Rattle.grammar.specs.Tests.{is}
 use Rattle.grammar.specs.Machine.{parse}
 use Rattle.grammar.specs.Recogniser.{first_fault}
 use Rattle.limits.specs.Uses.{Role, Use, use_at, uses_before, uses, is_literal, is_definition, is_listed_lem, is_label_lem, key_by, known, cells, labels, is_operator, operators, depth, parts, names}
-use Rattle.limits.specs.Rules.{text_limit, name_limit, cell_limit, label_limit, operator_limit, depth_limit, list_limit, code_limit, here, past, rest, tokens_of, place, Refused}
+use Rattle.limits.specs.Rules.{text_limit, name_limit, cell_limit, label_limit, operator_limit, depth_limit, list_limit, code_limit, here, past, rest, tokens_of, Refused}
 
 -- a refusal's number, and whether it stands
 pub data Check : Type 0 where

@@ -1,6 +1,8 @@
 // The limits of programs: which refusal a text gets, if any, and the symbols and cells of its names and numbers.
 // It knows tokens, the grammar and words of arithmetic. What is defined stands in specs/; the functions here carry
 // the theorems about it.
+#![tactic(auto)]
+
 ghost use Rattle.limits.specs.Laws.{OneAnswer, OnePass, Cells, Table, Trees, States};
 ghost use Rattle.limits.specs.Samples.{Samples};
 

@@ -1,8 +1,8 @@
 -- One byte of a text: what each kind of byte leads to.
-use Rattle.std.proofs.Common.{◌≡◌, ℕ, zero, suc, ◌+◌, ◌-◌, ◌*◌, ◌<◌, ◌≤◌, Bool, true, false, cond, ◌&&◌, eqb, ltb, leb, List, [], ◌∷◌, ◌++◌, ℤ, Some, None, Option, sym, refl, ap, ◌∙◌, arith}
+use Rattle.std.proofs.Common.{◌≡◌, ℕ, suc, ◌+◌, ◌-◌, ◌*◌, ◌<◌, ◌≤◌, Bool, true, false, cond, eqb, ltb, List, ◌∷◌, Some, None, sym, refl, ap, ◌∙◌, arith}
 use Rattle.std.proofs.lemmas.Bool.Decides.{nat_tests}
-use Rattle.lines.specs.Form.{digit, all_digits}
-use Rattle.lines.specs.Reading.{Stage, Start, Digits, after_digits, moved, ends, at_start, lawful_from, signed, numbers}
+use Rattle.lines.specs.Form.{digit}
+use Rattle.lines.specs.Reading.{Start, Digits, after_digits, moved, signed, numbers}
 
 -- a byte after some digits: it ends the line, or is a digit more, or breaks the form
 pub data Turn (k b : ℕ) : Type 0 where

@@ -1,9 +1,9 @@
 -- The check of a text: its loop, and what it answers.
-use Rattle.std.proofs.Common.{◌≡◌, ℕ, zero, suc, ◌+◌, ◌-◌, ◌*◌, ◌<◌, ◌≤◌, Bool, true, false, cond, eqb, List, [], ◌∷◌, ◌++◌, length, get_or, take, ℤ, Some, None, Option, sym, refl, ap, ◌∙◌, add-one, arith, take_all, take-suc}
+use Rattle.std.proofs.Common.{◌≡◌, ℕ, suc, ◌+◌, ◌-◌, ◌*◌, ◌<◌, Bool, true, false, cond, eqb, List, [], ◌∷◌, ◌++◌, length, get_or, take, ℤ, Some, None, Option, sym, refl, ap, ◌∙◌, add-one, arith, take_all, take-suc}
 use Rattle.std.proofs.lemmas.Bool.Decides.{nat_tests}
 use Rattle.lines.specs.Form.{Lines}
-use Rattle.lines.specs.Reading.{Stage, Start, Digits, moved, ends, at_start, lawful_from, signed, numbers}
-use Rattle.lines.specs.Checking.{Begins, Breaks}
+use Rattle.lines.specs.Reading.{Stage, Start, Digits, moved, ends, at_start, signed, numbers}
+use Rattle.lines.specs.Checking.{Breaks}
 use Rattle.lines.proofs.Forms.{lines_read, from_start, not_true}
 use Rattle.lines.proofs.Prefixes.{ends_append, begins, never_begins}
 

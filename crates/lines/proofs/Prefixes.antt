@@ -1,7 +1,6 @@
 -- Beginnings of lawful texts: exactly those whose bytes lead to some stage.
-use Rattle.std.proofs.Common.{◌≡◌, ℕ, zero, suc, ◌+◌, ◌<◌, ◌≤◌, Bool, true, false, cond, eqb, List, [], ◌∷◌, ◌++◌, length, ℤ, Some, None, Option, sym, refl, ap, ◌∙◌, arith}
-use Rattle.lines.specs.Form.{Lines}
-use Rattle.lines.specs.Reading.{Stage, Start, Digits, after_digits, moved, ends, at_start, lawful_from, numbers}
+use Rattle.std.proofs.Common.{◌≡◌, ℕ, zero, suc, true, false, List, [], ◌∷◌, ◌++◌, Some, None, Option, sym, refl, ap, ◌∙◌, arith}
+use Rattle.lines.specs.Reading.{Stage, Start, Digits, moved, ends, at_start, lawful_from, numbers}
 use Rattle.lines.specs.Checking.{Begins}
 use Rattle.lines.proofs.Bytes.{at_end}
 use Rattle.lines.proofs.Forms.{lines_read, from_start, not_true}

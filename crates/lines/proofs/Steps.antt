@@ -1,11 +1,11 @@
 -- Reading digits: one byte of a text that is lawful within a line.
-use Rattle.std.proofs.Common.{◌≡◌, ℕ, zero, suc, ◌+◌, ◌-◌, ◌*◌, ◌<◌, ◌≤◌, Bool, true, false, cond, ◌⊎◌, List, [], ◌∷◌, length, get_or, take, drop, ℤ, Some, None, sym, refl, ap, ◌∙◌, subst, inl, inr, le_of_suc-le-suc, not-suc-le-zero, add-one, arith, take-append-drop, drop-cons}
+use Rattle.std.proofs.Common.{◌≡◌, ℕ, zero, suc, ◌+◌, ◌-◌, ◌*◌, ◌<◌, ◌≤◌, Bool, true, false, cond, List, [], ◌∷◌, length, get_or, drop, sym, refl, ap, ◌∙◌, subst, inl, inr, le_of_suc-le-suc, not-suc-le-zero, add-one, arith, take-append-drop, drop-cons}
 use Rattle.lines.specs.Form.{digit}
-use Rattle.lines.specs.Reading.{Stage, Start, Digits, after_digits, moved, ends, at_start, lawful_from, signed, numbers, lines_of}
+use Rattle.lines.specs.Reading.{Start, Digits, moved, ends, at_start, lawful_from, signed, numbers, lines_of}
 use Rattle.lines.specs.Form.{Lines}
 use Rattle.lines.specs.Checking.{Breaks}
 use Rattle.std.proofs.lemmas.Bool.Decides.{eqb_tells}
-use Rattle.lines.proofs.Bytes.{Turn, ended, longer, broken, turn, at_end, at_digit, digit_bounds, numbers_digit, Opening, minus, other, opening}
+use Rattle.lines.proofs.Bytes.{ended, longer, broken, turn, at_end, at_digit, digit_bounds, numbers_digit, minus, other, opening}
 use Rattle.lines.proofs.Forms.{not_true, from_start}
 
 -- 10 to the power k

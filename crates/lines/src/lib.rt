@@ -1,5 +1,7 @@
 // Input lines as text: an optional "-", 1 to 18 digits and byte 10. The check of a text, and a reader of its lines.
 // It knows nothing of hosts.
+#![tactic(auto)]
+
 ghost use Rattle.std.specs.Prelude.{◌≡◌};
 ghost use Rattle.lines.specs.Checking.{Checked};
 ghost use Rattle.lines.specs.Reading.{FormHolds};

@@ -1,4 +1,5 @@
 // Trials of the machine on trays, in wrapped words and in ledger words.
+#![tactic(auto)]
 
 #[cfg(test)]
 mod tests {

@@ -1,5 +1,7 @@
 // note_vectors: reads outside cases of delivery notes from standard input and compares the check's answer with theirs.
 // A case is `case NAME`, `text N` and N bytes, `check M` and M bytes: `lines COUNT` or the fault.
+#![tactic(auto)]
+
 use anyhow::anyhow;
 use std::alloc::{AllocError, Global};
 use std::io::Read;

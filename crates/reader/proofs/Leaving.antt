@@ -1,5 +1,5 @@
 -- One state of the stack at a token, on plain values.
-use Rattle.std.proofs.Common.{◌≡◌, ℕ, suc, ◌<◌, List, [], ◌∷◌, length, sym, refl, ap, ◌∙◌, arith}
+use Rattle.std.proofs.Common.{◌≡◌, ℕ, suc, ◌<◌, List, ◌∷◌, length, sym, refl, ap, ◌∙◌, arith}
 use mathlib.Core.Option.{none, some}
 use Rattle.emission.specs.declared.action.Action.{Action}
 use Rattle.emission.specs.declared.moves.Move.{Move as CodedMove}
@@ -8,7 +8,7 @@ use Rattle.emission.specs.Table.{Entry, leaves, to, call, call_two, Move, refuse
 use Rattle.emission.specs.Classes.{meaning, class_move}
 use Rattle.assembly.specs.Plans.{Plan, Rooms, acted}
 use Rattle.reading.specs.declared.returns.Return.{Return}
-use Rattle.reading.specs.Steps.{Found, found, after_move, leaving}
+use Rattle.reading.specs.Steps.{found, after_move, leaving}
 
 module _ (q : Rooms) (c : ℕ) (xs k : List Return) (r : Return) (p : Plan) (e : xs ≡ r ∷ k) where
   by_top : (m : Move) → class_move r.state c ≡ m → leaving q c xs p ≡ after_move m r.address k p (λ b. leaving q c k (acted q b r.address 0 p))

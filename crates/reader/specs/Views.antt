@@ -1,14 +1,13 @@
 -- What a reader holds, and what calls keep of the memory that it is lent.
-use Rattle.std.specs.Prelude.{◌≡◌, ℕ, ◌-◌, List, [], ◌∷◌, length, Some, None, Option}
+use Rattle.std.specs.Prelude.{◌≡◌, ℕ, List, Some, None, Option}
 use Rattle.std.proofs.Math.Option as maybe
 use Rattle.stack.specs.Entries as stack
 use Rattle.emission.specs.declared.moves.Move.{Move as CodedMove}
 use Rattle.emission.specs.Table.{Entry, enter}
 use Rattle.emission.specs.Classes.{meaning}
-use Rattle.assembly.specs.Plans.{Plan, Rooms, acted}
+use Rattle.assembly.specs.Plans.{Plan, Rooms}
 use Rattle.assembler.specs.Views as assembler
 use Rattle.reading.specs.declared.returns.Return.{Return}
-use Rattle.reading.specs.Steps.{Found, leaving, pushed_all}
 use Rattle.reader.specs.declared.reader.Reader.{Reader}
 
 abbrev pub plan : Reader → Plan

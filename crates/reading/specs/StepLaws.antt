@@ -1,12 +1,11 @@
 -- The theorems about one token at the stack of returns.
-use Rattle.std.specs.Prelude.{◌≡◌, ℕ, ◌≤◌, min, ◌⊎◌, List, [], ◌∷◌, ◌++◌, map, length}
-use Rattle.std.proofs.Math.Option.{Option, none, some}
+use Rattle.std.specs.Prelude.{◌≡◌, ℕ, ◌≤◌, min, ◌⊎◌, List, ◌∷◌, ◌++◌, map, length}
 use Rattle.token.specs.Tokens.{Token}
 use Rattle.trees.specs.Trees.{Name}
 use Rattle.runs.specs.Code.{Layout}
 use Rattle.emission.specs.Draft.{Draft}
 use Rattle.emission.specs.declared.state.State.{State}
-use Rattle.emission.specs.Table.{Entry, Return, Translator, translator, follow, all_entered, draft_step}
+use Rattle.emission.specs.Table.{Return, all_entered}
 use Rattle.emission.specs.Returns.{AllBelow}
 use Rattle.assembly.specs.Plans.{Plan, Rooms}
 use Rattle.assembly.specs.Drawn.{Drawn, Fits, Few}

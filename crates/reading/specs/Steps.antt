@@ -1,5 +1,5 @@
 -- One token at the stack of returns, on a plan: states are left until one takes the token, and what it takes it by.
-use Rattle.std.specs.Prelude.{◌≡◌, ℕ, ◌≤◌, min, true, false, ◌||◌, List, [], ◌∷◌, ◌++◌, map, length}
+use Rattle.std.specs.Prelude.{◌≡◌, ℕ, min, true, false, ◌||◌, List, [], ◌∷◌, map}
 use Rattle.std.proofs.Math.Option.{Option, none, some}
 use Rattle.token.specs.Tokens.{Token, keyword}
 use Rattle.token.specs.declared.kinds.Keyword.TheVariants.{Of}
@@ -11,11 +11,10 @@ use Rattle.emission.specs.declared.action.Action.TheVariants as action
 use Rattle.emission.specs.declared.state.State.{State}
 use Rattle.emission.specs.declared.state.State.TheVariants.{ToName}
 use Rattle.emission.specs.Draft.{Draft}
-use Rattle.emission.specs.Table.{Entry, Return, Translator, translator, follow, draft_step, Move, refuse, leave, enter, move}
+use Rattle.emission.specs.Table.{Entry, Return, translator, follow, draft_step, Move, refuse, leave, enter, move}
 use Rattle.emission.specs.Classes.{class, class_move}
-use Rattle.emission.specs.Returns.{AllBelow}
 use Rattle.assembly.specs.Plans.{Plan, Rooms, pushed, acted}
-use Rattle.assembly.specs.Drawn.{Drawn, Refers, Fits, Few}
+use Rattle.assembly.specs.Drawn.{Drawn, Fits, Few}
 use Rattle.reading.specs.declared.returns.Return.{Return as Coded}
 
 -- a return as it stands in memory

@@ -1,24 +1,22 @@
 -- The theorems about one token more.
-use Rattle.std.specs.Prelude.{◌≡◌, ℕ, ◌-◌, min, Bool, true, false, List, [], ◌∷◌, length, Some, None}
+use Rattle.std.specs.Prelude.{◌≡◌, ℕ, ◌-◌, min, Bool, false, List, [], ◌∷◌, length, Some, None}
 use Rattle.std.proofs.Math.Option.{Option, none, some}
 use Rattle.fault.specs.declared.Refusal.{Refusal}
 use Rattle.fault.specs.Refusals.{numbered}
 use Rattle.token.specs.Tokens.{Token, name, number, keyword, sign, other, Placed}
-use Rattle.trees.specs.Trees.{Name}
 use Rattle.arithmetic.specs.Words.{Words}
 use Rattle.limits.specs.Uses.{Role, number_use, Use, made, use_of, before_of, is_listed_lem}
 use Rattle.limits.specs.Rules.{code_limit, tokens_of, Refused}
-use Rattle.emission.specs.declared.action.Action.{Action}
 use Rattle.emission.specs.Table.{Entry}
 use Rattle.emission.specs.Classes.{class}
 use Rattle.symbols.specs.declared.table.Table.{Table}
-use Rattle.symbols.specs.Mentions.{Mention, uses_of, use_refusal, with_mention}
+use Rattle.symbols.specs.Mentions.{uses_of, use_refusal}
 use Rattle.symbols.specs.Table.{Holds}
 use Rattle.assembly.specs.Plans.{Plan, acted}
 use Rattle.reading.specs.declared.counts.Counts.{Counts}
 use Rattle.reading.specs.declared.returns.Return.{Return as Coded}
 use Rattle.reading.specs.References.{reference}
-use Rattle.reading.specs.Steps.{Found, found, leaving, pushed_all}
+use Rattle.reading.specs.Steps.{Found, leaving, pushed_all}
 use Rattle.reading.specs.Counting.{counted, form_refusal_lem}
 use Rattle.reading.specs.Reads.{role_at, current, room, return_room, label_at, mentions, refused_first, Reads}
 

@@ -1,5 +1,7 @@
 // Reading a text: what a translator holds after some of the tokens, by the definitions, and what one token more makes of it.
 // It holds no running code; what is defined stands in specs/, and the functions here carry the theorems about it.
+#![tactic(auto)]
+
 ghost use Rattle.reading.specs.Laws.{Stays, Placed, Resolves};
 ghost use Rattle.reading.specs.StepLaws.{Leaves};
 

@@ -1,12 +1,12 @@
 -- Names, lists and words: what the proofs share.
-use Rattle.std.proofs.Common.{◌≡◌, ℕ, zero, suc, ◌+◌, ◌*◌, ◌<◌, ◌≤◌, Bool, true, false, cond, ◌&&◌, eqb, ◌≢◌, ◌⊎◌, ◌↔◌, List, [], ◌∷◌, ◌++◌, length, ℤ, pos, negsuc, ◌≤ℤ◌, Some, None, Decides, Option, sym, refl, ap, ◌∙◌, subst, inl, inr, arith}
+use Rattle.std.proofs.Common.{◌≡◌, ℕ, zero, suc, ◌+◌, ◌*◌, ◌≤◌, Bool, true, false, cond, eqb, List, [], ◌∷◌, ◌++◌, length, ℤ, pos, negsuc, Some, None, Decides, Option, refl, ap, subst, inl, inr, arith}
 use lib.Signed.{quot_z}
 use Rattle.std.proofs.lemmas.Bool.{and_parts, and_from, eqb-true, eq-eqb}
 use Rattle.std.proofs.lemmas.Bool.Decides.{nat_tests, same_from_decides}
 use Rattle.std.proofs.lemmas.Int.{ints}
 use Rattle.std.specs.List.{AllByRecursion as All}
 use Rattle.trees.specs.Trees.{Name, Operator, plus, minus, times, over, Expr, variable, literal, binary}
-use Rattle.arithmetic.specs.Words.{Words, Word, Lawful, is_zero, difference, quotient, less}
+use Rattle.arithmetic.specs.Words.{Words, Word, Lawful, is_zero, difference, less}
 use Rattle.runs.specs.Names.{same, Store, put}
 use Rattle.runs.specs.Source.{decimal, apply, value, nth, picked, pick_cost}
 use Rattle.runs.specs.Placed.{Among}

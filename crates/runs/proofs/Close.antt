@@ -1,5 +1,5 @@
 -- A run that closes: its last unit is the close, and before it the run is open.
-use Rattle.std.proofs.Common.{◌≡◌, ℕ, zero, suc, ◌+◌, ◌-◌, ◌*◌, ◌<◌, ◌≤◌, Bool, true, false, cond, ◌≢◌, ◌⊎◌, ◌↔◌, List, [], ◌∷◌, ◌++◌, length, take, ℤ, Some, None, Option, sym, refl, ap, ◌∙◌, subst, inl, inr, append-nil, add_comm, arith}
+use Rattle.std.proofs.Common.{◌≡◌, ℕ, zero, suc, ◌+◌, ◌-◌, ◌<◌, ◌≤◌, Bool, true, false, ◌≢◌, ◌⊎◌, List, [], ◌∷◌, ◌++◌, length, take, ℤ, Some, None, Option, sym, refl, ap, ◌∙◌, subst, inl, inr, append-nil, add_comm, arith}
 use native.Mathlib.Decide.{dec_le}
 use Rattle.std.proofs.lemmas.List.{take_all}
 use Rattle.trees.specs.Trees.{Name, Command, labelled, empty, assign, go_to, go_to_of, read, print, branch, Program, commands}
@@ -7,14 +7,14 @@ use Rattle.arithmetic.specs.Words.{Words, Lawful}
 use Rattle.host.specs.Meaning.{Meaning, first, taken, fits, marked}
 use Rattle.runs.specs.Names.{Store}
 use Rattle.runs.specs.Events.{World, Mark, number, line_end, Status, Running, Stopped, NoLine, NoPaper, Corrupt, Close, stop, no_line, no_paper, status_of, Event, line, mark, close, Observation, nothing, observe, observed_from, observed, Tick, quiet, does, Timed, timed, every}
-use Rattle.runs.specs.Source.{value, cost, compared, holds, Item, command, end_of_then, Continuation, then_read, then_print, quiets, Stage, at, ended, Step, making, storing, dropping, choosing, picked, pick_cost, perform, step, units, stage, start, events}
-use Rattle.runs.specs.Machine.{Instruction, State, fetch, counted, run, count, loaded}
+use Rattle.runs.specs.Source.{value, cost, compared, holds, command, end_of_then, Continuation, then_read, then_print, quiets, Stage, at, ended, making, storing, dropping, choosing, picked, pick_cost, perform, step, units, stage, start, events}
+use Rattle.runs.specs.Machine.{Instruction, State, fetch, counted, count, loaded}
 use Rattle.runs.specs.Machine.{step as machine_step}
 use Rattle.runs.specs.Code.{Layout, code_of}
 use Rattle.runs.specs.Placed.{Among, Placed, Ready}
 use Rattle.runs.specs.Statements.{after, carried, shown, closing, Costs, Whole, WholeExactly, WholeRunExactlyWhen, InstructionsCounted}
 use Rattle.runs.proofs.Cut.{run_more, count_more, none_more, all_counted, open_or_closed}
-use Rattle.runs.proofs.Goes.{noted, all_noted, Follows, shown_from}
+use Rattle.runs.proofs.Goes.{all_noted, Follows, shown_from}
 use Rattle.runs.proofs.Stands.{never}
 use Rattle.runs.proofs.Whole.{units_more, ended_units, ended_stage, Far, far, agrees_after}
 

@@ -1,5 +1,5 @@
 -- Steps may be cut anywhere; a closed machine stands still; counts.
-use Rattle.std.proofs.Common.{◌≡◌, ℕ, zero, suc, ◌+◌, ◌<◌, ◌≤◌, Bool, true, false, cond, ◌≢◌, ◌⊎◌, List, [], ◌∷◌, Some, None, Option, sym, refl, ap, ◌∙◌, subst, inl, inr, suc-add, zero-add, arith as lin}
+use Rattle.std.proofs.Common.{◌≡◌, ℕ, zero, suc, ◌+◌, ◌≢◌, ◌⊎◌, List, Some, None, Option, sym, refl, ap, ◌∙◌, inl, inr, suc-add, zero-add, arith as lin}
 use Rattle.runs.specs.Events.{World, Status, Running, Stopped, NoLine, NoPaper, Corrupt}
 use Rattle.runs.specs.Machine.{Instruction, fetch, State, move, counted, step, run, count}
 use Rattle.runs.specs.Statements.{StepsMayBeCut}

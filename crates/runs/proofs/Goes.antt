@@ -1,12 +1,12 @@
 -- Machine steps with what they do, one tick each; and what is seen of n steps of the machine.
-use Rattle.std.proofs.Common.{◌≡◌, ℕ, zero, suc, ◌+◌, ◌-◌, ◌<◌, ◌≤◌, Bool, true, false, cond, leb, List, [], ◌∷◌, ◌++◌, length, take, drop, ℤ, Some, None, Option, sym, refl, ap, ◌∙◌, subst, append_assoc, append-nil, arith, length-drop}
+use Rattle.std.proofs.Common.{◌≡◌, ℕ, zero, suc, ◌+◌, ◌-◌, ◌<◌, ◌≤◌, Bool, true, cond, List, [], ◌∷◌, ◌++◌, length, take, drop, ℤ, Some, sym, refl, ap, ◌∙◌, subst, append_assoc, arith, length-drop}
 use lib.ListN.{replicate-append-replicate}
 use Rattle.std.proofs.lemmas.List.{drop_at}
 use Rattle.std.proofs.lemmas.Bool.{leb-true}
 use Rattle.host.specs.Meaning.{Meaning, meaning, rest, taken, fits, marked}
-use Rattle.runs.specs.Events.{World, Mark, Status, Running, Close, status_of, Event, line, mark, close, Observation, nothing, observe, Tick, quiet, does, total, remaining, seen}
+use Rattle.runs.specs.Events.{World, Mark, Running, status_of, line, mark, close, Observation, observe, Tick, quiet, does, total, remaining}
 use Rattle.runs.specs.Source.{quiets}
-use Rattle.runs.specs.Machine.{Instruction, State, fetch, carry_out_lem, move, step, run}
+use Rattle.runs.specs.Machine.{Instruction, State, fetch, carry_out_lem, step, run}
 use Rattle.runs.specs.Statements.{shown, Shows}
 
 -- what ticks add to an observation

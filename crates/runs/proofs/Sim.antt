@@ -1,19 +1,19 @@
 -- A step of the source is as many steps of the machine, with the same events at the same places.
-use Rattle.std.proofs.Common.{◌≡◌, ℕ, zero, suc, ◌+◌, ◌-◌, ◌*◌, ◌<◌, ◌≤◌, Bool, true, false, cond, ◌≢◌, ◌⊎◌, List, [], ◌∷◌, ◌++◌, length, get_or, set, ℤ, pos, negsuc, Some, None, Option, sym, refl, ap, ◌∙◌, subst, inl, inr, append_assoc, arith, length-set}
+use Rattle.std.proofs.Common.{◌≡◌, ℕ, suc, ◌+◌, ◌*◌, ◌<◌, ◌≤◌, Bool, true, false, cond, ◌≢◌, ◌⊎◌, List, [], ◌∷◌, length, set, ℤ, pos, Some, Option, sym, refl, ap, ◌∙◌, subst, inl, inr, arith, length-set}
 use Rattle.std.proofs.lemmas.List.{get_or-set_same, get_or-set_other}
-use Rattle.trees.specs.Trees.{Name, Operator, plus, minus, times, over, Relation, greater, equal, Expr, variable, literal, binary, Command, labelled, empty, assign, go_to, go_to_of, read, print, branch}
+use Rattle.trees.specs.Trees.{Name, Operator, plus, minus, times, over, Relation, greater, equal, Expr, variable, literal, binary, Command}
 use Rattle.trees.specs.Trees.{less as lesser}
 use Rattle.arithmetic.specs.Words.{Words, Lawful, is_zero, difference, less}
 use Rattle.host.specs.Meaning.{Meaning, first, taken, fits, marked}
 use Rattle.runs.specs.Names.{same, Store, put}
-use Rattle.runs.specs.Events.{World, Mark, number, line_end, Status, Running, Tick, quiet, does}
-use Rattle.runs.specs.Source.{decimal, apply, value, operators, cost, compared, holds, Item, command, end_of_then, Continuation, find, then_read, then_print, quiets, Stage, at, ended, Step, making, storing, dropping, choosing, picked, pick_cost, marking, leading, perform}
+use Rattle.runs.specs.Events.{World, Mark, number, line_end, Running}
+use Rattle.runs.specs.Source.{decimal, apply, value, operators, cost, compared, holds, command, end_of_then, Continuation, find, quiets, Stage, at, ended, Step, making, storing, dropping, choosing, picked, pick_cost, leading, perform}
 use Rattle.runs.specs.Source.{step as source_step}
-use Rattle.runs.specs.Machine.{Instruction, Bru, Brz, Lda, Sta, Sub, Read, Convert, Newline, Stop, fetch, State, state, held, load, take_line, make_mark, carry_out_lem, step}
-use Rattle.runs.specs.Code.{Layout, temp, one, operating, cell_of, branching, comparing}
+use Rattle.runs.specs.Machine.{Instruction, Bru, Brz, Lda, Sta, Sub, Read, Convert, Newline, State, state, held, load, take_line, make_mark, carry_out_lem, step}
+use Rattle.runs.specs.Code.{Layout, temp, one, operating, cell_of, branching}
 use Rattle.runs.proofs.Basics.{same_self, same_eq, is_number, found, spent, found_is, spent_is, Fixed, fit_fixed, value_fixed, put_fixed, less_more, test_is}
 use Rattle.runs.proofs.Goes.{Goes, done, tick, tick_to, join, quietly}
-use Rattle.runs.proofs.Laid.{Fetch, OpsAt, variable_at, literal_at, binary_at, ExprAt, lone_variable, lone_literal, composed, TestsAt, no_test, more_test, ReadsAt, no_read, more_read, ValuesAt, no_value, more_value, CommandAt, labelled_at, empty_at, assign_at, go_to_at, go_to_of_at, read_none, read_some, print_none, print_some, branch_at, RestAt, end_at, command_at, off_at, reads_rest, values_rest}
+use Rattle.runs.proofs.Laid.{Fetch, OpsAt, variable_at, literal_at, binary_at, ExprAt, lone_variable, lone_literal, composed, TestsAt, no_test, more_test, more_read, more_value, CommandAt, labelled_at, empty_at, assign_at, go_to_at, go_to_of_at, read_none, read_some, print_none, print_some, branch_at, RestAt, end_at, command_at, off_at, reads_rest, values_rest}
 
 -- a running machine
 abbrev pub at_work : ℕ → ℤ → List ℤ → Meaning → State

@@ -1,19 +1,19 @@
 -- The words of a program's code: each jump leads into the code, each cell is in use, and each word means its instruction.
-use Rattle.std.proofs.Common.{◌≡◌, ℕ, zero, suc, ◌+◌, ◌*◌, ◌/◌, ◌%◌, ◌<◌, ◌≤◌, Bool, true, false, cond, eqb, ltb, List, [], ◌∷◌, ◌++◌, map, length, get_or, Some, None, Option, sym, refl, ap, ◌∙◌, subst, zero-add, arith, length-append}
+use Rattle.std.proofs.Common.{◌≡◌, ℕ, zero, suc, ◌+◌, ◌*◌, ◌/◌, ◌%◌, ◌<◌, ◌≤◌, Bool, true, false, cond, eqb, ltb, List, [], ◌∷◌, map, length, get_or, Some, None, Option, sym, refl, ap, ◌∙◌, subst, arith, length-append}
 use mathlib.Core.Option.{some}
 use lib.ListN.{get_elem?, length-map}
 use Rattle.std.proofs.ByRecursion.{All-append}
-use Rattle.std.proofs.lemmas.Bool.{ltb-true, lt-ltb, eqb-true}
+use Rattle.std.proofs.lemmas.Bool.{lt-ltb, eqb-true}
 use Rattle.std.specs.List.{AllByRecursion as All}
-use Rattle.trees.specs.Trees.{Name, Operator, plus, minus, times, over, Relation, greater, equal, less, Expr, variable, literal, binary, Command, labelled, empty, assign, go_to, go_to_of, read, print, branch, Program, commands}
+use Rattle.trees.specs.Trees.{Name, Operator, plus, minus, times, over, Relation, greater, equal, less, Expr, variable, literal, binary, Command, labelled, empty, assign, go_to, go_to_of, read, print, branch}
 use Rattle.runs.specs.Names.{same}
 use Rattle.runs.specs.Source.{operators, cost}
-use Rattle.runs.specs.Machine.{Instruction, Bru, Brz, Brn, Brp, Ada, Sub, Mul, Div, Lda, Sta, Read, Convert, Newline, Stop, opcode, operand, encode, decode, called, operation, inside, allowed, asked, fetch}
-use Rattle.runs.specs.Code.{Layout, temp, one, first_temporary, operating, cell_of, operations, expression, read_size, values_size, print_size, size, then_at, else_at, past, locate, locate_all, address_of, branching, comparing, tests, reads, reading, values, printing, code, codes, instructions, code_of}
-use Rattle.runs.specs.Placed.{variables_in, literals_in, variables, literals, wholes, picks, collected, Variable, Literal, Placed}
+use Rattle.runs.specs.Machine.{Instruction, Bru, Brz, Brn, Brp, Ada, Sub, Mul, Div, Lda, Sta, Read, Convert, Newline, Stop, opcode, operand, encode, decode, called, inside, allowed, asked, fetch}
+use Rattle.runs.specs.Code.{Layout, temp, first_temporary, operating, cell_of, operations, expression, values_size, size, then_at, else_at, locate, locate_all, branching, tests, reads, values, code, codes}
+use Rattle.runs.specs.Placed.{variables_in, literals_in, variables, literals, wholes, collected}
 use Rattle.runs.specs.Statements.{WordsDecode}
-use Rattle.runs.proofs.Basics.{all_left, all_right, all_among}
-use Rattle.runs.proofs.Laid.{Few, Short, Fetch, Stands, AllAt, all_laid}
+use Rattle.runs.proofs.Basics.{all_left, all_right}
+use Rattle.runs.proofs.Laid.{Few}
 
 -- a word's instruction
 pub round : (i : Instruction) → operand i < 4096 → decode (encode i) ≡ Some i

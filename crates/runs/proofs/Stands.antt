@@ -1,22 +1,21 @@
 -- A program's code stands where it should, and no run of it becomes corrupt.
-use Rattle.std.proofs.Common.{◌≡◌, ℕ, zero, suc, ◌+◌, ◌<◌, ◌≤◌, Bool, true, false, cond, ◌≢◌, ◌⊎◌, List, [], ◌∷◌, ◌++◌, map, length, get_or, set, ℤ, pos, Some, None, Option, sym, refl, ap, ◌∙◌, subst, inl, inr, zero-add, arith, length-set}
+use Rattle.std.proofs.Common.{◌≡◌, ℕ, zero, suc, ◌+◌, ◌<◌, ◌≤◌, Bool, true, false, cond, ◌≢◌, ◌⊎◌, List, [], ◌∷◌, length, get_or, set, ℤ, pos, Some, None, Option, sym, refl, ap, ◌∙◌, subst, inl, inr, arith, length-set}
 use mathlib.Core.Option.{some}
 use native.Mathlib.Decide.{dec_le}
 use lib.Signed.{lt_z}
 use lib.ListN.{get_elem?, length-map}
 use Rattle.std.proofs.lemmas.List.{get_or-set_other}
 use Rattle.std.specs.List.{AllByRecursion as All}
-use Rattle.trees.specs.Trees.{Name, Expr, Command, Program, commands}
+use Rattle.trees.specs.Trees.{Name, Command, Program, commands}
 use Rattle.arithmetic.specs.Words.{is_zero}
 use Rattle.host.specs.Meaning.{Meaning, first, fits}
 use Rattle.runs.specs.Events.{World, Mark, number, line_end, Status, Running, Stopped, NoLine, NoPaper, Corrupt}
-use Rattle.runs.specs.Source.{operators}
-use Rattle.runs.specs.Machine.{Instruction, Bru, Brz, Brn, Brp, Ada, Sub, Mul, Div, Lda, Sta, Read, Convert, Newline, Stop, encode, fetch, State, take_line, make_mark, put_mark, carry_out_lem, move, step, run, loaded}
-use Rattle.runs.specs.Code.{Layout, temp, one, first_temporary, first_free, size, sizes, program_size, locate_all, address_of, instructions, code_of, codes}
-use Rattle.runs.specs.Placed.{Among, variables, literals, wholes, picks, collected, Variable, Literal, Placed, Ready, Written, to_temp, to_temporary, to_variable}
+use Rattle.runs.specs.Machine.{Instruction, Bru, Brz, Brn, Brp, Ada, Sub, Mul, Div, Lda, Sta, Read, Convert, Newline, Stop, encode, fetch, State, take_line, make_mark, carry_out_lem, move, step, run, loaded}
+use Rattle.runs.specs.Code.{Layout, temp, one, first_temporary, first_free, size, sizes, program_size, address_of, instructions, code_of}
+use Rattle.runs.specs.Placed.{variables, literals, wholes, picks, collected, Variable, Literal, Placed, Ready, Written, to_temp, to_temporary, to_variable}
 use Rattle.runs.specs.Statements.{after, CodeIsSound, OtherCellsStay}
 use Rattle.runs.proofs.Basics.{all_among}
-use Rattle.runs.proofs.Laid.{Few, Short, Fetch, Stands, AllAt, none_at, more_at, all_laid}
+use Rattle.runs.proofs.Laid.{Fetch, Stands, AllAt, none_at, more_at, all_laid}
 use Rattle.runs.proofs.Sound.{Bound, at_all, fetched, end_of, codes_size, codes_bound, locate_all_within}
 
 -- a list stands in itself

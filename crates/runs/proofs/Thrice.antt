@@ -1,11 +1,10 @@
 -- A sample meets the premises of the theorems.
-use Rattle.std.proofs.Common.{◌≡◌, ℕ, ◌<◌, ◌≤◌, ◌≢◌, ◌⊎◌, List, [], ◌∷◌, length, get_or, ℤ, pos, sym, refl, ap, ◌∙◌, subst, inl, inr, arith}
+use Rattle.std.proofs.Common.{◌≡◌, ℕ, ◌<◌, ◌≤◌, ◌≢◌, List, [], ◌∷◌, get_or, pos, sym, refl, ap, ◌∙◌, subst, inl, inr, arith}
 use Rattle.std.proofs.lemmas.Int.{ints}
 use Rattle.trees.specs.Trees.{Name, Expr, commands}
 use Rattle.arithmetic.specs.Words.{Words, Lawful}
 use Rattle.runs.specs.Source.{operators, decimal}
-use Rattle.runs.specs.Code.{Layout}
-use Rattle.runs.specs.Placed.{Among, wholes, collected, Variable, Literal, Placed, Ready}
+use Rattle.runs.specs.Placed.{Among, wholes, collected, Literal, Placed, Ready}
 use Rattle.runs.specs.Samples.{Q, layout, cells, thrice}
 
 only_q : (x : Name) → Among x (Q ∷ Q ∷ Q ∷ []) → x ≡ Q

@@ -1,24 +1,24 @@
 -- The whole run: what is seen of n machine steps is what the source's events of running cost up to n add up to.
-use Rattle.std.proofs.Common.{◌≡◌, ℕ, zero, suc, ◌+◌, ◌-◌, ◌*◌, ◌<◌, ◌≤◌, Bool, true, false, cond, leb, ◌≢◌, ◌⊎◌, List, [], ◌∷◌, ◌++◌, length, get_or, take, ℤ, pos, negsuc, Some, None, Option, sym, refl, ap, ◌∙◌, subst, inl, inr, append_assoc, append-nil, suc-add, zero-add, arith, length-append}
+use Rattle.std.proofs.Common.{◌≡◌, ℕ, zero, suc, ◌+◌, ◌-◌, ◌≤◌, Bool, true, false, cond, leb, ◌⊎◌, List, [], ◌∷◌, ◌++◌, length, take, ℤ, pos, negsuc, Some, None, Option, sym, refl, ap, ◌∙◌, subst, inl, inr, append_assoc, append-nil, suc-add, zero-add, arith, length-append}
 use lib.ListN.{length-replicate}
 use Rattle.std.proofs.lemmas.Bool.Decides.{nat_tests}
-use Rattle.trees.specs.Trees.{Name, Expr, Command, labelled, empty, assign, go_to, go_to_of, read, print, branch, Program, commands}
+use Rattle.trees.specs.Trees.{Name, Command, labelled, empty, assign, go_to, go_to_of, read, print, branch, Program, commands}
 use Rattle.arithmetic.specs.Words.{Words, Lawful}
 use Rattle.host.specs.Meaning.{Meaning, first, taken, fits, marked}
 use Rattle.runs.specs.Names.{Store, zeros}
-use Rattle.runs.specs.Events.{World, Mark, number, line_end, Status, Running, Event, Observation, nothing, observe, observed_from, observed, Tick, quiet, does, Timed, timed, up_to, remaining}
-use Rattle.runs.specs.Source.{value, cost, compared, holds, Item, command, end_of_then, Continuation, in_order, find, then_read, then_print, quiets, Stage, at, ended, Step, making, storing, dropping, choosing, picked, pick_cost, step, units, stage, start, events}
-use Rattle.runs.specs.Machine.{State, run, loaded}
+use Rattle.runs.specs.Events.{World, Mark, number, line_end, Event, Observation, nothing, observe, observed_from, observed, Tick, quiet, does, timed, up_to, remaining}
+use Rattle.runs.specs.Source.{value, cost, compared, holds, command, end_of_then, Continuation, find, then_read, then_print, Stage, at, ended, Step, making, storing, dropping, choosing, picked, pick_cost, step, units, stage, start, events}
+use Rattle.runs.specs.Machine.{State, run}
 use Rattle.runs.specs.Machine.{step as machine_step}
-use Rattle.runs.specs.Code.{Layout, one, address_of, code_of}
+use Rattle.runs.specs.Code.{Layout, address_of, code_of}
 use Rattle.runs.specs.Placed.{Variable, Literal, Placed, Ready}
 use Rattle.runs.specs.Statements.{after, BudgetedRunsSettle, BudgetedRunsAgree}
-use Rattle.runs.proofs.Basics.{Fixed, zero_fixed, one_fixed, fit_fixed}
+use Rattle.runs.proofs.Basics.{zero_fixed, one_fixed, fit_fixed}
 use Rattle.runs.proofs.Cut.{still}
-use Rattle.runs.proofs.Goes.{Goes, notes, noted, all_noted, Follows, shows}
+use Rattle.runs.proofs.Goes.{notes, all_noted, Follows, shows}
 use Rattle.runs.proofs.Laid.{RestAt, rest_at, find_at}
 use Rattle.runs.proofs.Stands.{laid}
-use Rattle.runs.proofs.Sim.{Apart, Holds, Matches, runs, rests, Does, does_step}
+use Rattle.runs.proofs.Sim.{Apart, Holds, Matches, runs, rests, does_step}
 
 -- the events up to n, by taking n units
 late : (c N : ℕ) (ts : List Tick) → N ≤ c → up_to N (timed c ts) ≡ []

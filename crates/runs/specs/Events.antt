@@ -1,5 +1,5 @@
 -- What is seen of a run: events, each with its running cost, and the observation that they add up to.
-use Rattle.std.specs.Prelude.{ℕ, suc, ◌+◌, ◌-◌, cond, List, [], ◌∷◌, ◌++◌, length, drop, ℤ, nat_le}
+use Rattle.std.specs.Prelude.{ℕ, suc, ◌+◌, ◌-◌, cond, List, [], ◌∷◌, ◌++◌, length, drop, nat_le}
 use Rattle.arithmetic.specs.Words.{Words}
 use Rattle.host.specs.Meaning.{Meaning, meaning}
 pub use Rattle.host.specs.declared.mark.Mark.{Mark}

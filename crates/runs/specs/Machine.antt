@@ -1,5 +1,5 @@
 -- The machine: words of code, what each asks for, and what carrying it out does.
-use Rattle.std.specs.Prelude.{ℕ, zero, suc, ◌+◌, ◌*◌, ◌/◌, ◌%◌, Bool, true, false, cond, List, [], ◌∷◌, length, ℤ, pos, Some, None, Option, ◌==◌, int_lt, nat_lt, slice_index, slice_index_or, slice_set}
+use Rattle.std.specs.Prelude.{ℕ, zero, suc, ◌+◌, ◌*◌, ◌/◌, ◌%◌, Bool, true, false, cond, List, length, ℤ, pos, Some, None, Option, ◌==◌, int_lt, nat_lt, slice_index, slice_index_or, slice_set}
 use Rattle.arithmetic.specs.Words.{Words, is_zero, sum, difference, product, quotient}
 use Rattle.host.specs.Meaning.{Meaning, first, taken, fits, marked}
 use Rattle.runs.specs.Events.{World, Mark, number, line_end, Status, Running, Stopped, NoLine, NoPaper, Corrupt}

@@ -1,5 +1,5 @@
 -- Names as lists of bytes: when two are the same, and what a store holds under them.
-use Rattle.std.specs.Prelude.{Bool, true, false, cond, ◌&&◌, List, [], ◌∷◌, ℤ, pos, ◌==◌}
+use Rattle.std.specs.Prelude.{Bool, true, false, cond, ◌&&◌, [], ◌∷◌, ℤ, pos, ◌==◌}
 use Rattle.trees.specs.Trees.{Name}
 
 -- byte for byte

@@ -1,12 +1,12 @@
 -- Worked samples, each a closed computation.
 use Rattle.std.specs.Prelude.{◌≡◌, ℕ, zero, suc, min, cond, List, [], ◌∷◌, ℤ, pos, negsuc}
-use Rattle.trees.specs.Trees.{Name, plus, minus, times, over, Relation, greater, equal, less, Expr, variable, literal, binary, Command, labelled, empty, assign, go_to, go_to_of, read, print, branch, Program}
+use Rattle.trees.specs.Trees.{Name, plus, minus, times, over, Relation, greater, equal, less, Expr, variable, literal, binary, Command, labelled, empty, go_to, go_to_of, read, print, branch, Program}
 use Rattle.arithmetic.specs.Words.{Words, Lawful}
-use Rattle.host.specs.Meaning.{Meaning, meaning}
+use Rattle.host.specs.Meaning.{meaning}
 use Rattle.runs.specs.Names.{same}
 use Rattle.runs.specs.Events.{World, world, Mark, number, line_end, Status, Running, Stopped, NoLine, NoPaper, Corrupt, Timed, Event, line, mark, close, stop, no_line, no_paper}
 use Rattle.runs.specs.Source.{events}
-use Rattle.runs.specs.Machine.{Instruction, Bru, Brz, Brn, Brp, Ada, Sub, Mul, Div, Lda, Sta, Read, Convert, Newline, Stop, encode, State, run, count, loaded}
+use Rattle.runs.specs.Machine.{Bru, Brn, Ada, Sub, Mul, Lda, Sta, Read, Convert, Newline, Stop, encode, State, run, count, loaded}
 use Rattle.runs.specs.Code.{Layout, expression, instructions, code_of}
 use Rattle.runs.specs.Placed.{Placed, Ready}
 

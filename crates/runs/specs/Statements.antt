@@ -1,9 +1,9 @@
 -- The theorems, in the language of runs, events and costs.
-use Rattle.std.specs.Prelude.{◌≡◌, ℕ, ◌+◌, ◌<◌, ◌≤◌, ◌≢◌, ◌⊎◌, ◌↔◌, List, length, ℤ, pos, Some, None, Option, slice_index_or}
+use Rattle.std.specs.Prelude.{◌≡◌, ℕ, ◌+◌, ◌<◌, ◌≤◌, ◌≢◌, ◌⊎◌, ◌↔◌, List, length, ℤ, pos, Some, slice_index_or}
 use Rattle.trees.specs.Trees.{Name, Program}
-use Rattle.arithmetic.specs.Words.{Words, Lawful}
+use Rattle.arithmetic.specs.Words.{Lawful}
 use Rattle.host.specs.Meaning.{Meaning}
-use Rattle.runs.specs.Events.{World, Status, Running, Corrupt, Close, Event, close, Observation, observed, Timed, up_to, every, total, remaining, seen}
+use Rattle.runs.specs.Events.{World, Running, Corrupt, Close, close, Observation, observed, Timed, up_to, every, total, remaining, seen}
 use Rattle.runs.specs.Source.{events}
 use Rattle.runs.specs.Machine.{Instruction, operand, encode, decode, fetch, State, run, count, loaded}
 use Rattle.runs.specs.Code.{Layout, program_size, address_of, code_of}

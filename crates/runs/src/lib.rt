@@ -2,6 +2,8 @@
 // tree, and the theorems that join them, for every arithmetic and every host. It holds no running code: only the two enums
 // that a machine shares with these definitions, and small functions whose contracts name the theorems. It knows trees,
 // words and hosts, and nothing of texts, tokens or symbol tables: the cells of variables and numbers are a parameter.
+#![tactic(auto)]
+
 ghost use Rattle.runs.specs.Samples.{Samples};
 ghost use Rattle.runs.specs.Statements.{WordsDecode, CodeIsSound, OtherCellsStay, StepsMayBeCut};
 ghost use Rattle.runs.specs.Statements.{BudgetedRunsSettle, BudgetedRunsAgree, WholeRunExactlyWhen, InstructionsCounted};

@@ -1,6 +1,8 @@
 // From the text of a sheet to its refusal or its image, and from its image to its runs: this crate joins the limits of
 // texts with the runs of programs. It holds no running code; what is defined stands in specs/, and the functions here
 // carry the theorems about it. It knows tokens, the grammar, limits and runs, and words and hosts as mathematics.
+#![tactic(auto)]
+
 ghost use Rattle.sheets.specs.Laws.{AcceptedIsPlaced, SymbolsStand, SheetRunsAgree, OneImage};
 ghost use Rattle.sheets.specs.Samples.{Samples};
 

@@ -1,5 +1,5 @@
 -- The top of a stack: facts on plain lists.
-use Rattle.std.proofs.Common.{◌≡◌, ℕ, zero, suc, ◌+◌, ◌-◌, ◌<◌, ◌≤◌, List, [], ◌∷◌, ◌++◌, reverse, length, get_or, take, drop, set, sym, refl, ap, ◌∙◌, arith, length-take-le, take-suc}
+use Rattle.std.proofs.Common.{◌≡◌, ℕ, suc, ◌+◌, ◌-◌, ◌<◌, ◌≤◌, List, [], ◌∷◌, ◌++◌, reverse, length, get_or, take, set, sym, ap, ◌∙◌, arith, length-take-le, take-suc}
 use mathlib.Core.List.{reverse-append}
 use lib.ListN.{length-reverse}
 use Rattle.std.proofs.lemmas.List.{take_more_set}
@@ -18,3 +18,9 @@ module _ {T : Type 0} where
   popped xs n d p h =
       let s : n ≡ suc (n - 1) = omega arith in
       ap (λ k. reverse (take k xs)) s ∙ ap reverse (take-suc xs (n - 1) d (omega arith)) ∙ push_last (take (n - 1) xs) (get_or xs (n - 1) d)
+
+  -- the same, of the entry that is there
+  pub topped : (xs : List T) (n m : ℕ) (x : T) → n ≡ suc m → n ≤ length xs → x ≡ get_or xs m x → reverse (take n xs) ≡ x ∷ reverse (take m xs)
+  topped xs n m x e h y =
+      let z : n - 1 ≡ m = omega arith in
+      popped xs n x (omega arith) h ∙ ap (λ k. get_or xs k x ∷ reverse (take k xs)) z ∙ ap (λ w. w ∷ reverse (take m xs)) (sym y)

@@ -1,4 +1,6 @@
 // One stack for every kind of entry, over memory that the caller lends. It knows nothing of what it holds.
+#![tactic(auto)]
+
 ghost use Rattle.std.specs.Prelude.{◌≡◌, ℕ, ◌+◌, ◌-◌, ◌<◌, ◌≤◌, Bool, true, false, List, [], ◌∷◌, length, if◌then◌else◌, MatchOption, nat_lt};
 ghost use Rattle.stack.specs.Entries.{entries, room, Keeps};
 

@@ -4,13 +4,13 @@ use Rattle.std.proofs.lemmas.List.{get_or-map, length-map}
 use Rattle.std.proofs.lemmas.Bool.{false≢true, and_parts, and_from, eq-eqb, lt-ltb}
 use Rattle.token.specs.Numbers.{word}
 use Rattle.arithmetic.specs.Words.{Words}
-use Rattle.limits.specs.Uses.{Role, definition, target, listed, variable_use, number_use, Use, In, at_head, in_tail, is_literal, is_label_lem, Key, label_key, variable_key, number_key, same_word, key_by, known, cells}
+use Rattle.limits.specs.Uses.{Role, definition, target, listed, variable_use, number_use, Use, In, at_head, in_tail, is_literal, is_label_lem, Key, label_key, variable_key, number_key, same_word, key_by, known}
 use Rattle.limits.specs.Symbols.{first_cell, kind_of}
 use Rattle.limits.proofs.Keys.{Way, holds, fails, way, clash, same_word_sound, same_word_refl, same_bytes_sound, same_bytes_complete}
 use Rattle.symbols.specs.declared.table.Table.{Table}
 use Rattle.symbols.specs.Entries.{blank, entry, kind_entry, part}
 use Rattle.symbols.specs.Mentions.{Mention, uses_of, address_in, Sound, AllSound, contents}
-use Rattle.symbols.specs.Table.{size, Holds, mention, has_name_lem, of_label_lem, of_number, is_named_lem, is_valued_lem}
+use Rattle.symbols.specs.Table.{size, Holds, has_name_lem, of_label_lem, of_number, is_named_lem, is_valued_lem}
 use Rattle.symbols.proofs.Firsts.{First, no_first, entered, key_of, firsts, entries_are, firsts_count, contents_count, FirstAt, first_at, has_first}
 use Rattle.symbols.proofs.Exact.{in_cases}
 

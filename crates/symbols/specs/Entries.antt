@@ -1,5 +1,5 @@
 -- The entries of the table as they stand in memory.
-use Rattle.std.specs.Prelude.{ℕ, List, length, take, drop}
+use Rattle.std.specs.Prelude.{ℕ, List, take, drop}
 use Rattle.limits.specs.Uses as limits
 use Rattle.limits.specs.Symbols.{variable_kind, number_kind, label_kind}
 use Rattle.limits.specs.Symbols as table

@@ -1,5 +1,7 @@
 // The symbol table of a one-pass translator, over memory that the caller lends. It is told one use of a name or a number
 // after another, and answers the entry, or the refusal that stands at the use. It knows nothing of grammar or code.
+#![tactic(auto)]
+
 ghost use Rattle.std.specs.Prelude.{◌≡◌, ◌+◌, ◌<◌, true, false, ◌&&◌, Some, None};
 ghost use Rattle.limits.specs.Uses.{is_label_lem};
 ghost use Rattle.limits.specs.Rules.{cell_limit, label_limit};

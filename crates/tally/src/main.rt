@@ -1,5 +1,7 @@
 // tally: reads a delivery note from standard input, one whole number a line, and prints each running total in ledger
 // words, and at last the count of lines and the total. A note that breaks the form is refused with the place of the break.
+#![tactic(auto)]
+
 use arithmetic::ledger::Ledger;
 use std::alloc::Global;
 use std::io::{Read, Write};

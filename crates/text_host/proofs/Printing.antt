@@ -1,13 +1,11 @@
 -- One mark more on the output: facts on plain lists.
-use Rattle.std.proofs.Common.{◌≡◌, ℕ, zero, suc, ◌+◌, ◌-◌, ◌*◌, ◌%◌, ◌^◌, ◌<◌, ◌≤◌, min, Bool, true, false, cond, ◌&&◌, eqb, leb, List, [], ◌∷◌, ◌++◌, length, get_or, take, drop, set, ℤ, pos, negsuc, neg_ℤ, decimal, sym, refl, ap, ◌∙◌, subst, append_assoc, append-nil, add-one, arith, length-append, length-drop, length-set, length-take, length-take-le, drop-cons, take-suc, drop-drop, take_at, take-add, drop_at, w32, SFits, le-leb}
-use lib.Signed.{mag}
+use Rattle.std.proofs.Common.{◌≡◌, ℕ, suc, ◌+◌, ◌-◌, ◌*◌, ◌%◌, ◌^◌, ◌<◌, ◌≤◌, min, true, false, cond, eqb, leb, List, [], ◌∷◌, ◌++◌, length, get_or, take, drop, set, ℤ, pos, negsuc, neg_ℤ, decimal, sym, refl, ap, ◌∙◌, subst, append_assoc, append-nil, add-one, arith, length-append, length-drop, length-set, length-take-le, drop-cons, take-suc, drop-drop, take_at, take-add, drop_at, w32, SFits, le-leb}
 use lib.Seq.{take-set-le}
 use Rattle.std.proofs.lemmas.List.{take_more_set, drop-take, set-append_right}
 use Rattle.std.proofs.lemmas.Int.{ints}
 use Rattle.std.proofs.lemmas.Fmt.{decimal_by_steps}
 use Rattle.std.proofs.lemmas.Bool.{and_parts, and_from}
 use Rattle.std.proofs.lemmas.Bool.Decides.{nat_tests}
-use Rattle.std.specs.Fmt.{signed_decimal}
 use Rattle.decimal.specs.Digits.{overwritten, written}
 use Rattle.lines.specs.Form.{digit, all_digits, number_after, number_of}
 use Rattle.host.specs.Meaning.{Printable, meaning, marked}

@@ -1,5 +1,5 @@
 -- Marks as text: plain decimals, and byte 10 for a line end; and marks read back from bytes and the marks' lengths.
-use Rattle.std.specs.Prelude.{ℕ, ◌+◌, cond, List, [], ◌∷◌, ◌++◌, length, take, drop, ℤ, pos, neg_ℤ, ◌==◌}
+use Rattle.std.specs.Prelude.{ℕ, ◌+◌, cond, List, [], ◌∷◌, ◌++◌, length, take, drop, pos, neg_ℤ, ◌==◌}
 use Rattle.std.specs.Fmt.{signed_decimal}
 use Rattle.lines.specs.Form.{number_of}
 use Rattle.host.specs.declared.mark.Mark.{Mark}

@@ -1,11 +1,10 @@
 -- What a text host means.
-use Rattle.std.specs.Prelude.{◌≡◌, ℕ, ◌+◌, ◌-◌, ◌≤◌, min, List, [], ◌∷◌, length, take, drop, ℤ, pos, negsuc, refl}
-use Rattle.std.proofs.Common.{sym, ap, ◌∙◌, le_refl, le_trans, arith}
+use Rattle.std.specs.Prelude.{◌≡◌, ◌-◌, ◌≤◌, min, length, take, drop, pos, negsuc, refl}
+use Rattle.std.proofs.Common.{◌∙◌, le_refl, le_trans, arith}
 use Rattle.std.proofs.lemmas.Int.{ints}
 use Rattle.std.proofs.lemmas.Fmt.{decimal_nonempty, length_signed_le}
 use Rattle.host.specs.Meaning.{Meaning, meaning, ShortLines, Light}
 use Rattle.host.specs.Parts.{take_earlier, drop_later}
-use Rattle.host.specs.declared.mark.Mark.{Mark}
 use Rattle.host.specs.declared.mark.Mark.TheVariants.{Number, LineEnd}
 use Rattle.lines.specs.Readers.{to_read}
 use Rattle.lines.proofs.Bounds.{numbers_short}

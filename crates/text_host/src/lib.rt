@@ -1,4 +1,6 @@
 // The text host: input lines as text, output as plain decimals. It knows a host by the trait alone.
+#![tactic(auto)]
+
 ghost use Rattle.std.specs.Prelude.{◌≡◌, ℕ, ◌+◌, ◌-◌, ◌<◌, ◌≤◌, min, [], length, ℤ, pos, is_ok};
 ghost use Rattle.host.specs.Meaning.{Meaning, meaning, fits, marked};
 ghost use Rattle.lines.specs.Reading.{lines_of};

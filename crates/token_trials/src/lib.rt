@@ -1,4 +1,6 @@
 // The lexer as its callers meet it: a function that is proved from the lexer's contract alone, and tables of texts with their tokens.
+#![tactic(auto)]
+
 ghost use Rattle.std.specs.Prelude.{◌≡◌, length};
 ghost use Rattle.token.specs.Lexis.{tokens};
 

@@ -1,10 +1,9 @@
 -- A running total and its line end, as far as the paper goes.
-use Rattle.std.proofs.Common.{◌≡◌, ℕ, zero, suc, ◌+◌, ◌-◌, ◌<◌, ◌≤◌, Bool, true, false, cond, leb, List, [], ◌∷◌, ◌++◌, length, take, drop, ℤ, pos, sym, refl, ap, ◌∙◌, subst, append_assoc, append-nil, arith, length-append}
-use Rattle.arithmetic.specs.Words.{Words}
+use Rattle.std.proofs.Common.{◌≡◌, ℕ, ◌-◌, ◌<◌, Bool, true, false, cond, leb, List, [], ◌∷◌, ◌++◌, length, ℤ, sym, refl, ap, ◌∙◌, append_assoc, append-nil, arith}
 use Rattle.host.specs.Meaning.{Meaning, meaning, fits, marked}
 use Rattle.host.specs.declared.mark.Mark.{Mark}
 use Rattle.host.specs.declared.mark.Mark.TheVariants.{Number, LineEnd}
-use Rattle.totals.specs.Running.{plus, total_of, running, as_paper_goes}
+use Rattle.totals.specs.Running.{as_paper_goes}
 use Rattle.totals.specs.Lines.{with_number, line_fits, with_line}
 
 module _ (weight : Mark → ℕ) (z : ℤ) (h : Meaning) where

@@ -1,12 +1,11 @@
 -- One line more of a tally: from the state of the loop to the next, and to each end.
-use Rattle.std.proofs.Common.{◌≡◌, ℕ, zero, suc, ◌+◌, ◌-◌, ◌<◌, ◌≤◌, Bool, true, false, List, [], ◌∷◌, ◌++◌, length, take, drop, ℤ, pos, Some, None, sym, refl, ap, ◌∙◌, subst, append_assoc, append-nil, arith, length-append, take_all, take-add}
+use Rattle.std.proofs.Common.{◌≡◌, ℕ, zero, suc, ◌+◌, ◌-◌, ◌<◌, ◌≤◌, true, false, List, [], ◌∷◌, ◌++◌, length, take, drop, ℤ, pos, Some, None, sym, refl, ap, ◌∙◌, append_assoc, append-nil, arith, length-append, take_all, take-add}
 use lib.Seq.{take-nil}
 use Rattle.arithmetic.specs.Words.{Words}
-use Rattle.host.specs.Meaning.{Meaning, meaning, first, rest, taken}
+use Rattle.host.specs.Meaning.{Meaning, first, rest, taken}
 use Rattle.host.specs.declared.mark.Mark.{Mark}
 use Rattle.host.specs.declared.mark.Mark.TheVariants.{Number, LineEnd}
 use Rattle.totals.specs.Running.{plus, total_of, running, as_paper_goes, Tallied}
-use Rattle.totals.specs.declared.Totals.{Totals}
 use Rattle.totals.specs.Lines.{line_fits, with_line}
 use Rattle.totals.proofs.Paper.{whole_line, part_line}
 

@@ -1,5 +1,5 @@
 -- A number and a line end behind it, as far as the paper goes.
-use Rattle.std.specs.Prelude.{ℕ, Bool, true, false, cond, ℤ}
+use Rattle.std.specs.Prelude.{ℕ, Bool, false, cond, ℤ}
 use Rattle.host.specs.Meaning.{Meaning, fits, marked}
 use Rattle.host.specs.declared.mark.Mark.{Mark}
 use Rattle.host.specs.declared.mark.Mark.TheVariants.{Number, LineEnd}

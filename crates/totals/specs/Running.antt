@@ -1,5 +1,5 @@
 -- Running totals of lines, and what of them stands printed.
-use Rattle.std.specs.Prelude.{◌≡◌, ℕ, suc, ◌+◌, ◌-◌, ◌<◌, ◌≤◌, Bool, true, false, cond, List, [], ◌∷◌, ◌++◌, length, take, drop, ℤ, pos, nat_le}
+use Rattle.std.specs.Prelude.{◌≡◌, ℕ, ◌-◌, ◌<◌, ◌≤◌, true, false, cond, List, [], ◌∷◌, ◌++◌, length, take, drop, ℤ, pos, nat_le}
 use Rattle.arithmetic.specs.Words.{Words, sum}
 use Rattle.host.specs.Meaning.{Meaning}
 use Rattle.host.specs.declared.mark.Mark.{Mark}

@@ -1,4 +1,6 @@
 // Running totals of a host's lines: one task, written once for every host and every arithmetic.
+#![tactic(auto)]
+
 ghost use Rattle.std.specs.Prelude.{◌≡◌, ℕ, ℤ, pos, is_ok};
 ghost use Rattle.host.specs.Meaning.{Meaning, fits, marked};
 ghost use Rattle.host.specs.declared.mark.Mark.TheVariants.{Number as number, LineEnd as line_end};

@@ -1,5 +1,5 @@
 -- Programs as trees: what a text means once it is read. Names and numbers are kept as their bytes.
-use Rattle.std.specs.Prelude.{ℕ, List, [], ◌∷◌}
+use Rattle.std.specs.Prelude.{ℕ, List, ◌∷◌}
 
 abbrev pub Name : Type 0
 Name = List ℕ

@@ -1,5 +1,5 @@
 -- A list is what stands before an index, what stands there, and what stands after it.
-use Rattle.std.proofs.Common.{◌≡◌, ℕ, suc, ◌+◌, ◌-◌, ◌<◌, List, ◌∷◌, ◌++◌, length, get_or, take, drop, sym, ap, ◌∙◌, add-one, arith, length-drop, take_all}
+use Rattle.std.proofs.Common.{◌≡◌, ℕ, suc, ◌+◌, ◌-◌, ◌<◌, List, ◌∷◌, ◌++◌, length, get_or, take, drop, sym, ap, ◌∙◌, arith, length-drop, take_all}
 use lib.Seq.{split_at}
 
 pub split : (text : List ℕ) (n b : ℕ) → n < length text → get_or text n 0 ≡ b → text ≡ take (n - 0) text ++ (b ∷ take (length text - (n + 1)) (drop (n + 1) text))

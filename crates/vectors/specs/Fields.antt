@@ -1,5 +1,5 @@
 -- The parts of a file of cases: lines that byte 10 ends, and payloads of a stated length.
-use Rattle.std.specs.Prelude.{◌≡◌, ℕ, ◌+◌, ◌-◌, ◌*◌, ◌<◌, List, [], ◌∷◌, ◌++◌, length, Some, None, Option, ◌≢◌, slice_index}
+use Rattle.std.specs.Prelude.{◌≡◌, ℕ, ◌<◌, List, ◌∷◌, ◌++◌, length, Some, None, Option, ◌≢◌, slice_index}
 use Rattle.std.specs.Borrow.{Bor}
 
 -- no byte 10 among the first n bytes

@@ -1,4 +1,6 @@
 // Files of outside cases, taken apart: a line up to byte 10, a named number, a payload of a stated length.
+#![tactic(auto)]
+
 ghost use Rattle.std.specs.Prelude.{◌≡◌, ℕ, ◌<◌, ◌≤◌, List, ◌∷◌, ◌++◌, length};
 ghost use Rattle.vectors.specs.Fields.{NoEnd, LineSplit, Payload};
 

@@ -1,4 +1,4 @@
-use Rattle.std.proofs.Common.{◌≡◌, sym, arith}
+use Rattle.std.proofs.Common.{sym, arith}
 use Rattle.decimal.proofs.Lasts.{one_digit, digits_between}
 use Rattle.decimal.proofs.digits.Goals as goal
 

@@ -1,5 +1,5 @@
-use Rattle.std.proofs.Common.{◌≡◌, ℕ, suc, ◌+◌, ◌-◌, ◌<◌, ◌≤◌, ◌++◌, length, take, drop, sym, ap, ◌∙◌, arith, length-set, take-append-drop}
-use Rattle.decimal.specs.Digits.{last_digits, overwritten}
+use Rattle.std.proofs.Common.{◌≡◌, ℕ, suc, ◌+◌, ◌-◌, ◌++◌, length, take, drop, sym, ap, ◌∙◌, arith, length-set, take-append-drop}
+use Rattle.decimal.specs.Digits.{last_digits}
 use Rattle.decimal.proofs.Writes.{turn, to_write, length_last}
 use Rattle.decimal.proofs.write_digits.Goals as goal
 

@@ -1,4 +1,4 @@
-use Rattle.std.proofs.Common.{◌≡◌, Some, sym, refl, ap, ◌∙◌, arith, take_all}
+use Rattle.std.proofs.Common.{Some, sym, refl, ap, ◌∙◌, arith, take_all}
 use Rattle.lines.specs.Reading.{Start, ends}
 use Rattle.lines.proofs.Checks.{ends_in, ends_more, ends_in_end, ends_in_else, breaks_here, breaks_off, whole_lines}
 use Rattle.lines.proofs.check.Goals as goal

@@ -1,7 +1,7 @@
-use Rattle.std.proofs.Common.{◌≡◌, Bool, true, false, cond, ℤ, sym, ap, ◌∙◌, w32}
-use Rattle.host.specs.Meaning.{Meaning, fits, marked}
+use Rattle.std.proofs.Common.{◌≡◌, true, false, cond, sym, ap, ◌∙◌, w32}
+use Rattle.host.specs.Meaning.{fits, marked}
 use Rattle.host.specs.declared.mark.Mark.TheVariants.{Number, LineEnd}
-use Rattle.totals.specs.Lines.{with_number, line_fits, with_line}
+use Rattle.totals.specs.Lines.{with_number}
 use Rattle.std.proofs.lemmas.Int.{to_z-of_z}
 use Rattle.totals.proofs.print_line.Goals as goal
 

@@ -1,4 +1,4 @@
-use Rattle.std.proofs.Common.{◌≡◌, ◌-◌, ◌<◌, ◌≤◌, length, take, ◌∙◌, arith, length-take-le}
+use Rattle.std.proofs.Common.{◌-◌, ◌∙◌, arith, length-take-le}
 use Rattle.vectors.proofs.Splits.{split}
 use Rattle.vectors.proofs.split_payload.Goals as goal
 

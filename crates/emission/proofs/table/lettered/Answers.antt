@@ -1,4 +1,4 @@
-use Rattle.std.proofs.Common.{◌≡◌, ◌-◌, ◌≤◌, get_or, sym, refl, ap, arith}
+use Rattle.std.proofs.Common.{◌-◌, ◌≤◌, sym, arith}
 use Rattle.std.proofs.lemmas.List.{get_or_past}
 use Rattle.emission.specs.declared.moves.Move.TheVariants.{Refuse}
 use Rattle.emission.specs.Classes.{all_moves}

@@ -1,5 +1,5 @@
-use Rattle.std.proofs.Common.{◌≡◌, ◌+◌, ◌-◌, ◌*◌, get_or, sym, refl, ◌∙◌, arith}
-use Rattle.lines.proofs.Steps.{Within, in_text, bounds_here, within_next, numbers_next, end_here, short_here}
+use Rattle.std.proofs.Common.{◌+◌, sym, refl, ◌∙◌, arith}
+use Rattle.lines.proofs.Steps.{in_text, bounds_here, within_next, numbers_next, end_here, short_here}
 use Rattle.lines.proofs.reading.read_digits.Goals as goal
 
 pub loop-at-init : goal.loop-at-init

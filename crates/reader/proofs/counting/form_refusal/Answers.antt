@@ -1,4 +1,4 @@
-use Rattle.std.proofs.Common.{◌≡◌, [], sym, ap, ◌∙◌}
+use Rattle.std.proofs.Common.{[], sym, ap, ◌∙◌}
 use Rattle.token.specs.Views.{meant}
 use Rattle.reader.specs.Tokens.{form_refusal_by}
 use Rattle.reader.proofs.counting.form_refusal.Goals as goal

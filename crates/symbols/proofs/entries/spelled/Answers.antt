@@ -1,4 +1,4 @@
-use Rattle.std.proofs.Common.{◌-◌, ◌≤◌, length, take, drop, sym, ap, ◌∙◌, arith}
+use Rattle.std.proofs.Common.{◌≤◌, length, take, drop, sym, ap, ◌∙◌, arith}
 use lib.Seq.{take-nil}
 use Rattle.std.proofs.lemmas.List.{drop_all, take_all, take_rest, length-drop}
 use Rattle.symbols.proofs.entries.spelled.Goals as goal

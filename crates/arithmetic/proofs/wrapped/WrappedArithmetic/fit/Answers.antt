@@ -1,4 +1,4 @@
-use Rattle.std.proofs.Common.{◌≡◌, ◌%◌, ◌^◌, ap, ◌∙◌, w32, w64, SFits, to_z, of_z, rules}
+use Rattle.std.proofs.Common.{◌%◌, ◌^◌, ap, ◌∙◌, w32, w64, SFits, to_z, of_z, rules}
 use Rattle.std.proofs.lemmas.Nat.{and_mask}
 use Rattle.std.proofs.lemmas.Int.{to_z-of_z}
 use Rattle.arithmetic.specs.Wraps.{low_bits}

@@ -1,4 +1,4 @@
-use Rattle.std.proofs.Common.{◌≡◌, ℕ, ◌≤◌, ◌∷◌, length, sym, refl, ap, ◌∙◌, arith, rules}
+use Rattle.std.proofs.Common.{◌≡◌, ◌≤◌, ◌∷◌, length, ◌∙◌, arith, rules}
 use Rattle.stack.specs.Entries.{entries, room}
 use Rattle.assembly.specs.declared.mark.Mark.TheVariants.{Pending}
 use Rattle.assembly.specs.Plans.{words, temporary}

@@ -1,6 +1,6 @@
-use Rattle.std.proofs.Common.{◌≡◌, sym, ◌∙◌, rules}
+use Rattle.std.proofs.Common.{sym, ◌∙◌, rules}
 use Rattle.assembler.specs.Views.{plan}
-use Rattle.assembler.proofs.Reducing.{rests, same_end, fewer}
+use Rattle.assembler.proofs.Reducing.{same_end, fewer}
 use Rattle.assembler.proofs.assembler.Assembler.reduce.Goals as goal
 
 pub operators-smaller : goal.operators-smaller

@@ -1,4 +1,4 @@
-use Rattle.std.proofs.Common.{◌≡◌, ℕ, length}
+use Rattle.std.proofs.Common.{◌≡◌, length}
 use Rattle.stack.specs.Entries.{entries}
 use Rattle.assembly.specs.Plans.{reduced}
 use Rattle.assembler.specs.Views.{plan, Keeps}

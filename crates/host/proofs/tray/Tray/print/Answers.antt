@@ -1,4 +1,4 @@
-use Rattle.std.proofs.Common.{◌≡◌, ◌-◌, length, drop, sym, refl, arith, length-set, drop-set-lt, le-leb}
+use Rattle.std.proofs.Common.{◌-◌, length, drop, sym, refl, arith, length-set, drop-set-lt, le-leb}
 use Rattle.std.proofs.lemmas.List.{take-set}
 use Rattle.host.specs.Trays.{up_to_long}
 use Rattle.host.proofs.Taking.{tray_marked}

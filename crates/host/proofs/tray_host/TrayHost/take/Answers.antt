@@ -1,7 +1,7 @@
-use Rattle.std.proofs.Common.{◌≡◌, ◌+◌, ◌-◌, length, get_or, take, drop, pos, Some, None, sym, refl, ap, ◌∙◌, le_refl, arith, w64, SFits, rules}
+use Rattle.std.proofs.Common.{◌-◌, length, get_or, take, pos, Some, sym, refl, ap, ◌∙◌, le_refl, arith, w64, SFits, rules}
 use Rattle.std.proofs.lemmas.Int.{to_z-of_z}
 use Rattle.host.specs.Meaning.{short}
-use Rattle.host.specs.Trays.{up_to_long, tray_still}
+use Rattle.host.specs.Trays.{tray_still}
 use Rattle.host.proofs.Taking.{none_waits, one_waits, past_end, at_long, at_short}
 use Rattle.host.proofs.tray_host.TrayHost.take.Goals as goal
 

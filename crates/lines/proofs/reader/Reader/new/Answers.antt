@@ -1,4 +1,4 @@
-use Rattle.std.proofs.Common.{◌≡◌, false, length, drop, sym, refl, ap, ◌∙◌, arith}
+use Rattle.std.proofs.Common.{false, length, drop, refl, ap, ◌∙◌, arith}
 use Rattle.lines.specs.Reading.{Start, lawful_from, numbers}
 use Rattle.lines.proofs.Forms.{lines_read}
 use Rattle.lines.proofs.Steps.{drop_end, lawful_lines, broken_lines}

@@ -1,6 +1,6 @@
-use Rattle.std.proofs.Common.{◌≡◌, ℕ, ◌<◌, true, false, ◌∷◌, length, drop, pos, ◌-ℤ◌, neg_ℤ, sym, refl, ap, ◌∙◌, arith, w64, to_z, of_z}
+use Rattle.std.proofs.Common.{◌≡◌, ℕ, ◌<◌, true, false, ◌∷◌, drop, pos, ◌-ℤ◌, neg_ℤ, refl, ap, ◌∙◌, arith, w64, to_z, of_z}
 use Rattle.std.proofs.lemmas.Int.{ints}
-use Rattle.lines.specs.Reading.{Start, lawful_from, numbers}
+use Rattle.lines.specs.Reading.{numbers}
 use Rattle.lines.proofs.Steps.{drop_end, minus_here, plain_here}
 use Rattle.lines.proofs.reader.Reader.next.Goals as goal
 

@@ -5,7 +5,7 @@ use Rattle.host.specs.Meaning.{meaning}
 use Rattle.lines.specs.Readers.{to_read}
 use Rattle.text_host.specs.Rendering.{marks_of}
 use Rattle.text_host.specs.declared.text.TextHost.{TextHost}
-use Rattle.text_host.proofs.Printing.{Holds, touched, over_front, over_more, over_size, over_beyond, whole_holds, whole_meaning, whole_room, whole_low}
+use Rattle.text_host.proofs.Printing.{Holds, touched, over_front, over_more, over_size, over_beyond, whole_holds, whole_meaning, whole_room}
 use Rattle.text_host.proofs.text.TextHost.append.Goals as goal
 
 held : (h : TextHost) → Holds h.output.now h.written h.lengths.now h.count
