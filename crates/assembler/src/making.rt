@@ -1,7 +1,7 @@
 // The assembler at work: words, expressions by two stacks, and the actions of the table.
 ghost use Rattle.std.specs.Prelude.{◌≡◌, ◌<◌, [], slice_set};
 ghost use Rattle.assembly.specs.Words.{packed};
-ghost use Rattle.assembly.specs.Plans.{words, work, planned, with_made, put_word, emit, emit_jump_lem, land_at, operating as operating_on, reduces, operation, reduced, binding, operate, push_mark_lem, push_cell, closed, loaded, end_expression_lem, aside, branching as branching_to, begin_then_lem, acted};
+ghost use Rattle.assembly.specs.Plans.{words, work, planned, with_made, put_word, emit, emit_jump, land_at, operating as operating_on, reduces, operation, reduced, binding, operate, push_mark, push_cell, closed, loaded, end_expression, aside, branching as branching_to, begin_then, acted};
 ghost use Rattle.assembler.specs.Views.{plan, rooms, Keeps, waiting_operator, Applies};
 
 use crate::assembler::Assembler;
@@ -121,7 +121,7 @@ impl<'c, 'o, 'm> Assembler<'c, 'o, 'm> {
     // One jump more to the label with this symbol.
     fn emit_jump(&mut self, operation: u16, symbol: u16)
         requires { operation < 16 }
-        ensures after { plan self.new ≡ emit_jump_lem operation symbol (plan self.old) }
+        ensures after { plan self.new ≡ emit_jump operation symbol (plan self.old) }
         ensures kept { Keeps self.old self.new }
     {
         self.put(pack(operation, symbol));
@@ -148,7 +148,7 @@ impl<'c, 'o, 'm> Assembler<'c, 'o, 'm> {
     }
 
     fn push_mark(&mut self, mark: Mark)
-        ensures after { plan self.new ≡ push_mark_lem (rooms self.old).marks mark (plan self.old) }
+        ensures after { plan self.new ≡ push_mark (rooms self.old).marks mark (plan self.old) }
         ensures kept { Keeps self.old self.new }
     {
         let _ = self.operators.push(mark);
@@ -244,7 +244,7 @@ impl<'c, 'o, 'm> Assembler<'c, 'o, 'm> {
 
     // The end of an expression whose operators are reduced: a whole one leaves its value in the accumulator.
     fn end_expression(&mut self)
-        ensures after { plan self.new ≡ end_expression_lem (plan self.old) }
+        ensures after { plan self.new ≡ end_expression (plan self.old) }
         ensures kept { Keeps self.old self.new }
     {
         if self.operators.depth() > 0 {
@@ -279,7 +279,7 @@ impl<'c, 'o, 'm> Assembler<'c, 'o, 'm> {
 
     // The second value is compared with the first: on to the THEN part, or over it to an address that is not known yet.
     fn begin_then(&mut self)
-        ensures after { plan self.new ≡ begin_then_lem (plan self.old) }
+        ensures after { plan self.new ≡ begin_then (plan self.old) }
         ensures kept { Keeps self.old self.new }
     {
         let inside = self.count.saturating_add(3);

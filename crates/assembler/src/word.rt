@@ -1,6 +1,6 @@
 // Words of code in the making: those of the machine, and jumps to labels whose addresses are not known yet.
 ghost use Rattle.std.specs.Prelude.{◌≡◌, ◌<◌};
-ghost use Rattle.assembly.specs.Words.{packed, instruction_word_lem, jump_operation, jump_zero_operation};
+ghost use Rattle.assembly.specs.Words.{packed, instruction_word, jump_operation, jump_zero_operation};
 
 use runs::instruction::Instruction;
 
@@ -20,7 +20,7 @@ pub fn pack(operation: u16, operand: u16) -> u16
 
 // The word of an instruction.
 pub fn instruction_word(instruction: Instruction) -> u16
-    ensures { result ≡ instruction_word_lem instruction }
+    ensures { result ≡ instruction_word instruction }
 {
     match instruction {
         Instruction::Bru(a) => pack(0, a),

@@ -11,7 +11,7 @@ use Rattle.emission.specs.Draft.{Word, fixed, jump, jump_zero, pending, parenthe
 use Rattle.emission.specs.Actions as actions
 use Rattle.emission.specs.declared.action.Action.TheVariants as action
 use Rattle.assembly.specs.declared.mark.Mark.{Mark}
-use Rattle.assembly.specs.Words.{packed, instruction_word_lem, jump_operation, jump_zero_operation}
+use Rattle.assembly.specs.Words.{packed, instruction_word, jump_operation, jump_zero_operation}
 use Rattle.assembly.specs.Plans as plans
 use Rattle.assembly.specs.Plans.{Words, Work, Plan, planned, put_word}
 use Rattle.assembly.specs.Drawn.{operator_code, mark_code, relation_code, coded, Written, Drawn, Few}
@@ -64,7 +64,7 @@ module _ (number : Name → ℕ) {d : Draft} {p : Plan} (h : Drawn number d p) w
   emitted w v same = rewritten (one_more number w v (words_of d) p.made same h.words)
 
   pub put : (i : Instruction) → Drawn number (draft.emit (fixed i ∷ []) d) (plans.emit i p)
-  put i = emitted (fixed i) (instruction_word_lem i) (λ _. refl)
+  put i = emitted (fixed i) (instruction_word i) (λ _. refl)
 
   -- a jump gets its address
   pub landed_at : (a : ℕ) → Drawn number (draft.land a d) (plans.land_at (min a 65535) p)
@@ -89,7 +89,7 @@ module _ (number : Name → ℕ) {d : Draft} {p : Plan} (h : Drawn number d p) w
   -- a mark
   marked : (m : draft.Mark) (q : ℕ) → length d.making.marks < q →
       Drawn number (draft.with_work (draft.work (m ∷ d.making.marks) d.making.cells d.making.temporaries (words_of d)) d)
-      (plans.push_mark_lem q (mark_code m) p)
+      (plans.push_mark q (mark_code m) p)
   marked m q room = worked (marked_works number m q d.making p.making p.made room the_work)
 
   -- the operators on top that pass a test are reduced
@@ -99,13 +99,13 @@ module _ (number : Name → ℕ) {d : Draft} {p : Plan} (h : Drawn number d p) w
 
   -- the jump to the THEN part
   branches : suc (here d) < code_limit →
-      instruction_word_lem (plans.branching p.relation (plans.plus p.made.count 3)) ≡ instruction_word_lem (code.branching d.relation (3 + here d))
+      instruction_word (plans.branching p.relation (plans.plus p.made.count 3)) ≡ instruction_word (code.branching d.relation (3 + here d))
   branches room =
       let n : plans.plus p.made.count 3 ≡ 3 + here d = omega (arith, h.words.count) in
-      ap instruction_word_lem ((λ i. plans.branching (h.relation i) (n i)) ∙ same_branching d.relation (3 + here d))
+      ap instruction_word ((λ i. plans.branching (h.relation i) (n i)) ∙ same_branching d.relation (3 + here d))
 
   -- the end of an expression whose operators are reduced
-  ended : Drawn number (draft.with_work (draft.ended d.making) d) (plans.end_expression_lem p)
+  ended : Drawn number (draft.with_work (draft.ended d.making) d) (plans.end_expression p)
   ended = subst (λ (ms : List Mark). Drawn number (draft.with_work (draft.ended d.making) d) (plans.ended ms p)) (sym h.marks) (go d.making.marks refl)
     where
       stays : (ms : List draft.Mark) → d.making.marks ≡ ms →
@@ -129,16 +129,16 @@ acts y number q action.Nothing a n r d p h e few fits = h
 acts y number q action.DefineLabel a n r d p h e few fits = renamed number h d.kept p.kept (record { label = n; address = here d } ∷ d.definitions)
 acts y number q action.SetTarget a n r d p h e few fits = targeted number h (y.variable_cell n) r e
 acts y number q action.StoreTarget a n r d p h e few fits =
-    targeted number (emitted number h (fixed (Sta d.target)) _ (λ _. ap (λ t. instruction_word_lem (Sta t)) h.target)) 0 0 refl
+    targeted number (emitted number h (fixed (Sta d.target)) _ (λ _. ap (λ t. instruction_word (Sta t)) h.target)) 0 0 refl
 acts y number q action.KeepName a n r d p h e few fits = renamed number h n r d.definitions
 acts y number q action.JumpToName a n r d p h e few fits =
     renamed number (emitted number h (jump d.kept) _ (λ _. ap (packed jump_operation) e)) [] 0 d.definitions
 acts y number q action.LoadName a n r d p h e few fits =
-    renamed number (emitted number h (fixed (Lda (y.variable_cell d.kept))) _ (λ _. ap (λ t. instruction_word_lem (Lda t)) e)) [] 0 d.definitions
+    renamed number (emitted number h (fixed (Lda (y.variable_cell d.kept))) _ (λ _. ap (λ t. instruction_word (Lda t)) e)) [] 0 d.definitions
 acts y number q action.FirstLabel a n r d p h e few fits = emitted number h (jump_zero n) _ (λ _. ap (packed jump_zero_operation) e)
 acts y number q action.FurtherLabel a n r d p h e few fits = emitted number (put number h (Sub 1)) (jump_zero n) _ (λ _. ap (packed jump_zero_operation) e)
 acts y number q action.ReadName a n r d p h e few fits =
-    emitted number (put number h Read) (fixed (Sta (y.variable_cell n))) _ (λ _. ap (λ t. instruction_word_lem (Sta t)) e)
+    emitted number (put number h Read) (fixed (Sta (y.variable_cell n))) _ (λ _. ap (λ t. instruction_word (Sta t)) e)
 acts y number q action.SkipLine a n r d p h e few fits = put number h Read
 acts y number q action.PrintValue a n r d p h e few fits = put number (put number h Convert) Newline
 acts y number q action.EndLine a n r d p h e few fits = put number h Newline

@@ -8,7 +8,7 @@ use Rattle.runs.specs.declared.instruction.Instruction.TheVariants.{Lda, Sta}
 use Rattle.runs.specs.Code as code
 use Rattle.emission.specs.Draft as draft
 use Rattle.emission.specs.Draft.{Word, fixed, pending, parenthesis}
-use Rattle.assembly.specs.Words.{instruction_word_lem}
+use Rattle.assembly.specs.Words.{instruction_word}
 use Rattle.assembly.specs.Plans.{Words, Work, work, operating, reduces, operation, reduce, pushed, unmarked, loaded}
 use Rattle.assembly.specs.Drawn.{operator_code, mark_code, Written}
 use Rattle.assembly.proofs.Writing.{one_more}
@@ -35,8 +35,8 @@ module _ (number : Name → ℕ) where
   operated : (o : trees.Operator) (l r n : ℕ) (ws : List Word) (k : Words) → n ≤ 60000 → Written number ws k →
       Written number (draft.operation o l r n ws) (operation (operator_code o) l r n k)
   operated o l r n ws k few h =
-      one_more number (fixed (Sta (code.first_temporary + n))) _ _ _ (λ _. ap (λ c. instruction_word_lem (Sta c)) (omega arith))
-      (one_more number (fixed (code.operating o r)) _ _ _ (λ _. ap instruction_word_lem (same_operating o r))
+      one_more number (fixed (Sta (code.first_temporary + n))) _ _ _ (λ _. ap (λ c. instruction_word (Sta c)) (omega arith))
+      (one_more number (fixed (code.operating o r)) _ _ _ (λ _. ap instruction_word (same_operating o r))
       (one_more number (fixed (Lda l)) _ ws k (λ _. refl) h))
 
   either : (b : Bool) (y₁ y₂ : draft.Work) (z₁ z₂ : Work × Words) → Works number y₁ z₁.0 z₁.1 → Works number y₂ z₂.0 z₂.1 →

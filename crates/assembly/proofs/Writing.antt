@@ -9,7 +9,7 @@ use Rattle.runs.specs.declared.instruction.Instruction.TheVariants.{Bru}
 use Rattle.limits.specs.Rules.{code_limit}
 use Rattle.emission.specs.Draft.{Word, fixed, patch}
 use Rattle.emission.proofs.Sizes.{patch_length}
-use Rattle.assembly.specs.Words.{instruction_word_lem}
+use Rattle.assembly.specs.Words.{instruction_word}
 use Rattle.assembly.specs.Plans.{Words, put_word, land}
 use Rattle.assembly.specs.Drawn.{coded, Written}
 
@@ -86,18 +86,18 @@ module _ (number : Name → ℕ) where
       as_many : length (patch (pred a) (length ws) ws) ≡ length ws
       as_many = patch_length (pred a) (length ws) ws
 
-      patched : map (coded number) (reverse (patch (pred a) (length ws) ws)) ≡ set (map (coded number) (reverse ws)) (pred a) (instruction_word_lem (Bru (length ws)))
+      patched : map (coded number) (reverse (patch (pred a) (length ws) ws)) ≡ set (map (coded number) (reverse ws)) (pred a) (instruction_word (Bru (length ws)))
       patched = ap (map (coded number)) (patch_sets (pred a) (length ws) ws) ∙ map-set (coded number) (reverse ws) (pred a) (fixed (Bru (length ws)))
 
-      sized : (b : Bool) → length (cond b (set k.code (min a 65535 - 1) (instruction_word_lem (Bru k.count))) k.code) ≡ code_limit
-      sized true = length-set k.code (min a 65535 - 1) (instruction_word_lem (Bru k.count)) ∙ h.size
+      sized : (b : Bool) → length (cond b (set k.code (min a 65535 - 1) (instruction_word (Bru k.count))) k.code) ≡ code_limit
+      sized true = length-set k.code (min a 65535 - 1) (instruction_word (Bru k.count)) ∙ h.size
       sized false = h.size
 
       placed : length ws ≤ code_limit →
-          cond (ltb (min a 65535 - 1) k.count) (set k.code (min a 65535 - 1) (instruction_word_lem (Bru k.count))) k.code
+          cond (ltb (min a 65535 - 1) k.count) (set k.code (min a 65535 - 1) (instruction_word (Bru k.count))) k.code
           ≡ map (coded number) (reverse (patch (pred a) (length ws) ws)) ++ replicate (code_limit - length (patch (pred a) (length ws) ws)) 0
       placed room =
-          ap (λ z. cond (ltb (min a 65535 - 1) k.count) (set z (min a 65535 - 1) (instruction_word_lem (Bru k.count))) z) (h.code room)
-          ∙ set_once (λ t. instruction_word_lem (Bru t)) (map (coded number) (reverse ws)) (replicate (code_limit - length ws) 0) a (length ws) k.count
+          ap (λ z. cond (ltb (min a 65535 - 1) k.count) (set z (min a 65535 - 1) (instruction_word (Bru k.count))) z) (h.code room)
+          ∙ set_once (λ t. instruction_word (Bru t)) (map (coded number) (reverse ws)) (replicate (code_limit - length ws) 0) a (length ws) k.count
           (length-map (reverse ws) (coded number) ∙ length-reverse ws) (omega (arith, h.count)) (omega arith) (ltb (min a 65535 - 1) k.count) refl
           ∙ (λ i. sym patched i ++ replicate (code_limit - sym as_many i) 0)

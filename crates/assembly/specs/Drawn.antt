@@ -14,7 +14,7 @@ use Rattle.assembly.specs.declared.mark.Mark.{Mark}
 use Rattle.assembly.specs.declared.mark.Mark.TheVariants.{Open, Pending}
 use Rattle.assembly.specs.declared.mark.Relation.{Relation}
 use Rattle.assembly.specs.declared.mark.Relation.TheVariants.{Greater, Equal, Less}
-use Rattle.assembly.specs.Words.{packed, instruction_word_lem, jump_operation, jump_zero_operation}
+use Rattle.assembly.specs.Words.{packed, instruction_word, jump_operation, jump_zero_operation}
 use Rattle.assembly.specs.Plans.{Words, Plan, Rooms}
 
 abbrev pub operator_code : trees.Operator → Operator
@@ -35,7 +35,7 @@ relation_code trees.less = Less
 -- `number` gives each label the index of its symbol
 module _ (number : Name → ℕ) where
   abbrev pub coded : Word → ℕ
-  coded (fixed i) = instruction_word_lem i
+  coded (fixed i) = instruction_word i
   coded (jump l) = packed jump_operation (number l)
   coded (jump_zero l) = packed jump_zero_operation (number l)
 

@@ -10,7 +10,7 @@ use Rattle.assembly.specs.declared.mark.Mark.{Mark}
 use Rattle.assembly.specs.declared.mark.Mark.TheVariants.{Blank, Open, Pending}
 use Rattle.assembly.specs.declared.mark.Relation.{Relation}
 use Rattle.assembly.specs.declared.mark.Relation.TheVariants.{Greater, Equal, Less}
-use Rattle.assembly.specs.Words.{packed, instruction_word_lem, jump_operation, jump_zero_operation}
+use Rattle.assembly.specs.Words.{packed, instruction_word, jump_operation, jump_zero_operation}
 
 -- the words so far: the code, and their number, which stays at 65,535
 pub record Words : Type 0 where
@@ -70,18 +70,18 @@ abbrev pub put_word : ℕ → Words → Words
 put_word v k = words (slice_set k.code k.count v) (plus k.count 1)
 
 abbrev pub put : Instruction → Words → Words
-put i k = put_word (instruction_word_lem i) k
+put i k = put_word (instruction_word i) k
 
 -- the jump before the address a, if there is a word, leads to the next word
 abbrev pub land : ℕ → Words → Words
-land a k = words (cond (nat_lt (a - 1) k.count) (slice_set k.code (a - 1) (instruction_word_lem (Bru k.count))) k.code) k.count
+land a k = words (cond (nat_lt (a - 1) k.count) (slice_set k.code (a - 1) (instruction_word (Bru k.count))) k.code) k.count
 
 -- a word more in a plan, and a jump to a label
 abbrev pub emit : Instruction → Plan → Plan
 emit i p = with_made (put i p.made) p
 
-abbrev pub emit_jump_lem : ℕ → ℕ → Plan → Plan
-emit_jump_lem o n p = with_made (put_word (packed o n) p.made) p
+abbrev pub emit_jump : ℕ → ℕ → Plan → Plan
+emit_jump o n p = with_made (put_word (packed o n) p.made) p
 
 -- Expressions.
 
@@ -124,8 +124,8 @@ reduced all p = reduced_by (reduce all p.making.marks p.making.cells p.making.te
 abbrev pub pushed : {A : Type 0} → ℕ → A → List A → List A
 pushed n x xs = cond (nat_lt (length xs) n) (x ∷ xs) xs
 
-abbrev pub push_mark_lem : ℕ → Mark → Plan → Plan
-push_mark_lem n m p = with_making (work (pushed n m p.making.marks) p.making.cells p.making.temporaries) p
+abbrev pub push_mark : ℕ → Mark → Plan → Plan
+push_mark n m p = with_making (work (pushed n m p.making.marks) p.making.cells p.making.temporaries) p
 
 abbrev pub push_cell : ℕ → ℕ → Plan → Plan
 push_cell n c p = with_making (work p.making.marks (pushed n c p.making.cells) p.making.temporaries) p
@@ -138,7 +138,7 @@ binding Over = false
 
 -- + and - come after all operators before them, * and / after those that bind as close
 abbrev pub operate : ℕ → Operator → Plan → Plan
-operate n o p = push_mark_lem n (Pending o) (reduced (binding o) p)
+operate n o p = push_mark n (Pending o) (reduced (binding o) p)
 
 -- without the open parenthesis on top
 abbrev pub unmarked : List Mark → List Mark
@@ -161,8 +161,8 @@ abbrev pub ended : List Mark → Plan → Plan
 ended [] p = planned (loaded p.making.cells p.making.temporaries p.made) (work [] [] 0) p.target p.kept p.relation
 ended (m ∷ ms) p = p
 
-abbrev pub end_expression_lem : Plan → Plan
-end_expression_lem p = ended p.making.marks p
+abbrev pub end_expression : Plan → Plan
+end_expression p = ended p.making.marks p
 
 -- IF.
 
@@ -175,8 +175,8 @@ branching Equal a = Brz a
 branching Less a = Brp a
 
 -- the comparison, the jump to the THEN part, which begins two words on, and the jump over it, which has no address yet
-abbrev pub begin_then_lem : Plan → Plan
-begin_then_lem p = with_relation Greater (emit (Bru 0) (emit (branching p.relation (plus p.made.count 3)) (emit (Sub 0) p)))
+abbrev pub begin_then : Plan → Plan
+begin_then p = with_relation Greater (emit (Bru 0) (emit (branching p.relation (plus p.made.count 3)) (emit (Sub 0) p)))
 
 abbrev pub land_at : ℕ → Plan → Plan
 land_at a p = with_made (land a p.made) p
@@ -189,27 +189,27 @@ acted q action.DefineLabel a n p = p
 acted q action.SetTarget a n p = with_target n p
 acted q action.StoreTarget a n p = with_target 0 (emit (Sta p.target) p)
 acted q action.KeepName a n p = with_kept n p
-acted q action.JumpToName a n p = with_kept 0 (emit_jump_lem jump_operation p.kept p)
+acted q action.JumpToName a n p = with_kept 0 (emit_jump jump_operation p.kept p)
 acted q action.LoadName a n p = with_kept 0 (emit (Lda p.kept) p)
-acted q action.FirstLabel a n p = emit_jump_lem jump_zero_operation n p
-acted q action.FurtherLabel a n p = emit_jump_lem jump_zero_operation n (emit (Sub 1) p)
+acted q action.FirstLabel a n p = emit_jump jump_zero_operation n p
+acted q action.FurtherLabel a n p = emit_jump jump_zero_operation n (emit (Sub 1) p)
 acted q action.ReadName a n p = emit (Sta n) (emit Read p)
 acted q action.SkipLine a n p = emit Read p
 acted q action.PrintValue a n p = emit Newline (emit Convert p)
 acted q action.EndLine a n p = emit Newline p
 acted q action.PushVariable a n p = push_cell q.cells n p
 acted q action.PushNumber a n p = push_cell q.cells n p
-acted q action.OpenGroup a n p = push_mark_lem q.marks Open p
+acted q action.OpenGroup a n p = push_mark q.marks Open p
 acted q action.CloseGroup a n p = closed p
 acted q action.Plus a n p = operate q.marks Plus p
 acted q action.Minus a n p = operate q.marks Minus p
 acted q action.Times a n p = operate q.marks Times p
 acted q action.Over a n p = operate q.marks Over p
-acted q action.EndExpression a n p = end_expression_lem (reduced true p)
+acted q action.EndExpression a n p = end_expression (reduced true p)
 acted q action.Greater a n p = aside Greater p
 acted q action.Equal a n p = aside Equal p
 acted q action.Less a n p = aside Less p
-acted q action.BeginThen a n p = begin_then_lem p
+acted q action.BeginThen a n p = begin_then p
 acted q action.BeginElse a n p = land_at a (emit (Bru 0) p)
 acted q action.EndElse a n p = land_at a p
 acted q action.EndProgram a n p = emit Stop p

@@ -7,8 +7,8 @@ use Rattle.runs.specs.declared.instruction.Instruction.{Instruction}
 abbrev pub packed : ℕ → ℕ → ℕ
 packed o a = o * 4096 + a % 4096
 
-abbrev pub instruction_word_lem : Instruction → ℕ
-instruction_word_lem i = packed (opcode i) (operand i)
+abbrev pub instruction_word : Instruction → ℕ
+instruction_word i = packed (opcode i) (operand i)
 
 -- jumps to a label, whose operand is the label's symbol
 abbrev pub jump_operation : ℕ

@@ -5,9 +5,9 @@ use Rattle.std.proofs.lemmas.Bool.{or_left, or_right}
 use Rattle.token.specs.Tokens.{Token}
 use Rattle.token.specs.Numbers.{word}
 use Rattle.arithmetic.specs.Words.{Words}
-use Rattle.limits.specs.Uses.{Role, Use, made, use_at, with_use, uses, Key, variable_key, number_key, same_key, is_label_lem, key_by, key, known, count_if, cells}
+use Rattle.limits.specs.Uses.{Role, Use, made, use_at, with_use, uses, Key, variable_key, number_key, same_key, is_label, key_by, key, known, count_if, cells}
 use Rattle.limits.specs.Rules.{past, rest, seen, Used}
-use Rattle.limits.specs.Symbols.{first_cell, cells_before, cell, cells_used_lem}
+use Rattle.limits.specs.Symbols.{first_cell, cells_before, cell, cells_used}
 use Rattle.emission.specs.Room.{Below}
 use Rattle.emission.specs.Layouts.{layout}
 use Rattle.limits.proofs.Lists.{seen_next}
@@ -55,7 +55,7 @@ next_cell w ts r s j l u h =
 
 -- the cells before a first use are among all
 cells_grow : (w : Words) (u : Use) (us : List Use) → cells w us ≤ cells w (u ∷ us)
-cells_grow w u us = go (not (is_label_lem u.role) && not (known w (key w u) us)) (cells w us)
+cells_grow w u us = go (not (is_label u.role) && not (known w (key w u) us)) (cells w us)
   where
     go : (b : Bool) (n : ℕ) → n ≤ count_if b n
     go true n = omega arith
@@ -69,8 +69,8 @@ before_within w k (u ∷ us) = go (known w k us) (before_within w k us) (cells_g
     go true p q = omega arith
     go false p q = q
 
-cell_below : (w : Words) (ts : List Token) (k : Key) → cell w ts k < suc (cells_used_lem w ts)
+cell_below : (w : Words) (ts : List Token) (k : Key) → cell w ts k < suc (cells_used w ts)
 cell_below w ts k = let h = before_within w k (uses ts) in omega arith
 
-pub below : (w : Words) (ts : List Token) → Below (layout w ts) (suc (cells_used_lem w ts))
+pub below : (w : Words) (ts : List Token) → Below (layout w ts) (suc (cells_used w ts))
 below w ts = record { variables = λ n. cell_below w ts (variable_key n); literals = λ n. cell_below w ts (number_key (word w n)) }

@@ -10,7 +10,7 @@ use Rattle.limits.specs.Uses.{parts}
 use Rattle.emission.specs.Draft.{Draft}
 use Rattle.emission.specs.Actions.{Action}
 use Rattle.emission.specs.Table.{State, Next, Start, Label, LetWord, LetName, LetEnd, GoWord, ToWord, ToName, OfWord, OfNames, OfComma, ReadWord, ReadNames, ReadComma, PrintWord, PrintList, LeftSide, RightSide, ThenPart, ElsePart, Operand, AfterOperand, Group, table, returning, Return, Translator, translator, translator_rows, draft_step, outset, translated, decided}
-use Rattle.emission.specs.Classes.{state_number_lem}
+use Rattle.emission.specs.Classes.{state_number}
 use Rattle.emission.specs.Returns.{comes_back, AllBelow}
 use Rattle.emission.proofs.Stepping.{refused, left}
 use Rattle.emission.proofs.Image.{returns_in, returns_of, image}
@@ -101,7 +101,7 @@ module _ (y : Layout) where
 
   -- n returns are below s, if s is the start of a command
   abbrev Deep : ℕ → State → List Return → Type 0
-  Deep n s k = cond (eqb (state_number_lem s) (state_number_lem Start)) (length k) n ≡ n
+  Deep n s k = cond (eqb (state_number s) (state_number Start)) (length k) n ≡ n
 
   abbrev Stands : List Token → List Return → Type 0
   Stands b [] = Unit {0}
@@ -134,4 +134,4 @@ module _ (y : Layout) where
 
   pub text_nested : (ts : List Token) (s : Return) (k : List Return) (d : Draft) → translated y ts ≡ some (translator (s ∷ k) d) → s.state ≡ Start →
       length k ≡ suc (length (parts (reverse ts)))
-  text_nested ts s k d e h = ap (λ (r : State). cond (eqb (state_number_lem r) (state_number_lem Start)) (length k) (suc (length (parts (reverse ts))))) (sym h) ∙ (text_stands ts s k d e).1
+  text_nested ts s k d e h = ap (λ (r : State). cond (eqb (state_number r) (state_number Start)) (length k) (suc (length (parts (reverse ts))))) (sym h) ∙ (text_stands ts s k d e).1

@@ -9,7 +9,7 @@ use Rattle.token.specs.declared.kinds.Keyword.TheVariants as keyword_of
 use Rattle.token.specs.declared.kinds.Sign.{Sign}
 use Rattle.token.specs.declared.kinds.Sign.TheVariants as sign_of
 use Rattle.emission.specs.Table.{State, Move, move}
-use Rattle.emission.specs.Classes.{meaning, class, samples, class_move, state_number_lem, all_moves, letters}
+use Rattle.emission.specs.Classes.{meaning, class, samples, class_move, state_number, all_moves, letters}
 
 abbrev classes : List Token
 classes = samples ++ (other 0 ∷ [])
@@ -18,7 +18,7 @@ abbrev pub by_letter : ℕ → Move
 by_letter i = meaning (get_or all_moves (i - 46) Refuse)
 
 row : State → List ℕ
-row s = get_or letters (state_number_lem s) []
+row s = get_or letters (state_number s) []
 
 rows_right : (s : State) → map by_letter (row s) ≡ map (move s) classes
 unfolding letters row
@@ -80,7 +80,7 @@ class_at [] (suc c) = refl
 class_at (t ∷ ts) zero = refl
 class_at (t ∷ ts) (suc c) = class_at ts c
 
-pub entry_right : (s : State) (c : ℕ) → c < 26 → by_letter (get_or (get_or letters (state_number_lem s) []) c 0) ≡ class_move s c
+pub entry_right : (s : State) (c : ℕ) → c < 26 → by_letter (get_or (get_or letters (state_number s) []) c 0) ≡ class_move s c
 unfolding row
 entry_right s c h =
     let l : c < length (row s) = omega (arith, row_length s) in

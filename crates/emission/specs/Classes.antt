@@ -42,31 +42,31 @@ class_move s c = move s (slice_index_or samples c (other 0))
 
 -- The table by letters.
 
-abbrev pub state_number_lem : State → ℕ
-state_number_lem state.Next = 0
-state_number_lem state.Start = 1
-state_number_lem state.Label = 2
-state_number_lem state.LetWord = 3
-state_number_lem state.LetName = 4
-state_number_lem state.LetEnd = 5
-state_number_lem state.GoWord = 6
-state_number_lem state.ToWord = 7
-state_number_lem state.ToName = 8
-state_number_lem state.OfWord = 9
-state_number_lem state.OfNames = 10
-state_number_lem state.OfComma = 11
-state_number_lem state.ReadWord = 12
-state_number_lem state.ReadNames = 13
-state_number_lem state.ReadComma = 14
-state_number_lem state.PrintWord = 15
-state_number_lem state.PrintList = 16
-state_number_lem state.LeftSide = 17
-state_number_lem state.RightSide = 18
-state_number_lem state.ThenPart = 19
-state_number_lem state.ElsePart = 20
-state_number_lem state.Operand = 21
-state_number_lem state.AfterOperand = 22
-state_number_lem state.Group = 23
+abbrev pub state_number : State → ℕ
+state_number state.Next = 0
+state_number state.Start = 1
+state_number state.Label = 2
+state_number state.LetWord = 3
+state_number state.LetName = 4
+state_number state.LetEnd = 5
+state_number state.GoWord = 6
+state_number state.ToWord = 7
+state_number state.ToName = 8
+state_number state.OfWord = 9
+state_number state.OfNames = 10
+state_number state.OfComma = 11
+state_number state.ReadWord = 12
+state_number state.ReadNames = 13
+state_number state.ReadComma = 14
+state_number state.PrintWord = 15
+state_number state.PrintList = 16
+state_number state.LeftSide = 17
+state_number state.RightSide = 18
+state_number state.ThenPart = 19
+state_number state.ElsePart = 20
+state_number state.Operand = 21
+state_number state.AfterOperand = 22
+state_number state.Group = 23
 
 -- each move that the table has, once; the first has the letter 46, which is ".", the next 47, and so on
 abbrev pub all_moves : List Coded

@@ -1,7 +1,7 @@
 // The table: for each state and each class of tokens, the letter of what the translator does there.
 ghost use Rattle.std.specs.Prelude.{◌≡◌, ◌-◌, ◌<◌, [], slice_index, slice_index_or};
 ghost use Rattle.emission.specs.declared.moves.Move.TheVariants.{Refuse};
-ghost use Rattle.emission.specs.Classes.{all_moves, class_move, letters, meaning, state_number_lem};
+ghost use Rattle.emission.specs.Classes.{all_moves, class_move, letters, meaning, state_number};
 
 use crate::action::Action;
 use crate::moves::Move;
@@ -90,7 +90,7 @@ const MOVES: [Move; 45] = [
 ];
 
 fn state_number(state: State) -> usize
-    ensures { result ≡ state_number_lem state }
+    ensures { result ≡ state_number state }
 {
     match state {
         State::Next => 0,

@@ -11,7 +11,7 @@ use Rattle.grammar.specs.Recogniser.{first_fault}
 use Rattle.grammar.proofs.Theorems.{parse_sound, parse_complete, one_reading}
 use Rattle.grammar.proofs.Faults.{none_program, some_fault}
 use Rattle.limits.specs.Uses.{uses}
-use Rattle.limits.specs.Rules.{text_limit, code_limit, Unmet, Met, Rule, no_program, Clear, tokens_of, place, Refused, Refusal, long_text, first_rule, unmet_label, long_code_lem, Accepted}
+use Rattle.limits.specs.Rules.{text_limit, code_limit, Unmet, Met, Rule, no_program, Clear, tokens_of, place, Refused, Refusal, long_text, first_rule, unmet_label, long_code, Accepted}
 use Rattle.limits.specs.Refusals.{or_else, first_refusal, first_unmet, over_code, refusal}
 use Rattle.limits.proofs.Search.{Result, first_is, UnmetResult, unmet_is}
 
@@ -36,7 +36,7 @@ module _ (w : Words) (size : Program → ℕ) (n : ℕ) (ts : List Placed) where
     where
       by : (p : Program) → parse all_tokens ≡ some p → (b : Bool) → ltb code_limit (size p) ≡ b →
           Judged (cond b (some (record { number = 13; place = 0 })) none)
-      by p e true q = long_code_lem p h c m (parse_sound all_tokens p e) (ltb-true code_limit (size p) q)
+      by p e true q = long_code p h c m (parse_sound all_tokens p e) (ltb-true code_limit (size p) q)
       by p e false q = (p, record { short = h; clear = c; met = m; parses = parse_sound all_tokens p e; fits = ltb-false code_limit (size p) q })
 
       go : (o : Option Program) → parse all_tokens ≡ o → Judged (over_code size o)
@@ -89,29 +89,29 @@ module _ (w : Words) (size : Program → ℕ) (n : ℕ) (ts : List Placed) where
   one_refusal a b (long_text h) (long_text g) = refl
   one_refusal a b (long_text h) (first_rule k m g r f l) = too_long h g
   one_refusal a b (long_text h) (unmet_label k g c u f) = too_long h g
-  one_refusal a b (long_text h) (long_code_lem p g c u q l) = too_long h g
+  one_refusal a b (long_text h) (long_code p g c u q l) = too_long h g
   one_refusal a b (first_rule k m g r f l) (long_text h) = too_long h g
   one_refusal a b (first_rule k m g r f l) (first_rule j i g' s f' l') =
       let e = same_token k m j i r f l s f' l' in
       (λ x. record { number = e.1 x; place = place n (drop (e.0 x) ts) })
   one_refusal a b (first_rule k m g r f l) (unmet_label j g' c u f') = absurd (c k m r)
-  one_refusal a b (first_rule k m g r f l) (long_code_lem p g' c u q l') = absurd (c k m r)
+  one_refusal a b (first_rule k m g r f l) (long_code p g' c u q l') = absurd (c k m r)
   one_refusal a b (unmet_label k g c u f) (long_text h) = too_long h g
   one_refusal a b (unmet_label k g c u f) (first_rule j i g' s f' l') = absurd (c j i s)
   one_refusal a b (unmet_label k g c u f) (unmet_label j g' c' u' f') =
       let e = same_mention k j u f u' f' in
       (λ x. record { number = 12; place = place n (drop (e x) ts) })
-  one_refusal a b (unmet_label k g c u f) (long_code_lem p g' c' u' q l') = absurd (u' k u)
-  one_refusal a b (long_code_lem p g c u q l) (long_text h) = too_long h g
-  one_refusal a b (long_code_lem p g c u q l) (first_rule j i g' s f' l') = absurd (c j i s)
-  one_refusal a b (long_code_lem p g c u q l) (unmet_label j g' c' u' f') = absurd (u j u')
-  one_refusal a b (long_code_lem p g c u q l) (long_code_lem p' g' c' u' q' l') = refl
+  one_refusal a b (unmet_label k g c u f) (long_code p g' c' u' q l') = absurd (u' k u)
+  one_refusal a b (long_code p g c u q l) (long_text h) = too_long h g
+  one_refusal a b (long_code p g c u q l) (first_rule j i g' s f' l') = absurd (c j i s)
+  one_refusal a b (long_code p g c u q l) (unmet_label j g' c' u' f') = absurd (u j u')
+  one_refusal a b (long_code p g c u q l) (long_code p' g' c' u' q' l') = refl
 
   not_both : (r : Refused) (p : Program) → Refusal w size n ts r → Accepted w size n ts p → ⊥
   not_both r p (long_text h) a = too_long h a.short
   not_both r p (first_rule k m g x f l) a = a.clear k m x
   not_both r p (unmet_label k g c u f) a = a.met k u
-  not_both r p (long_code_lem q g c u d l) a =
+  not_both r p (long_code q g c u d l) a =
       let e : size p ≡ size q = ap size (one_reading all_tokens p q a.parses d) in
       let h : size p ≤ code_limit = a.fits in
       omega arith

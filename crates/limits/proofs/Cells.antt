@@ -7,9 +7,9 @@ use Rattle.token.specs.Tokens.{Token, Placed}
 use Rattle.token.specs.Numbers.{word}
 use Rattle.trees.specs.Trees.{Name}
 use Rattle.arithmetic.specs.Words.{Words}
-use Rattle.limits.specs.Uses.{Role, definition, target, listed, variable_use, number_use, Use, made, In, use_at, with_use, uses_before, uses, is_label_lem, Key, label_key, variable_key, number_key, same_key, key_by, key, known, count_if, cells, labels}
+use Rattle.limits.specs.Uses.{Role, definition, target, listed, variable_use, number_use, Use, made, In, use_at, with_use, uses_before, uses, is_label, Key, label_key, variable_key, number_key, same_key, key_by, key, known, count_if, cells, labels}
 use Rattle.limits.specs.Rules.{cell_limit, label_limit, past, rest, seen, no_cell, no_label, Clear, tokens_of}
-use Rattle.limits.specs.Symbols.{Symbol, first_cell, cells_before, cell, variable_cell, literal_cell, cells_used_lem, symbol, entered, symbols_after, symbols}
+use Rattle.limits.specs.Symbols.{Symbol, first_cell, cells_before, cell, variable_cell, literal_cell, cells_used, symbol, entered, symbols_after, symbols}
 use Rattle.limits.proofs.Keys.{Way, holds, fails, way, clash, same_key_sound, known_complete}
 use Rattle.limits.proofs.Lists.{seen_next}
 use Rattle.limits.proofs.Stands.{new_sound}
@@ -21,7 +21,7 @@ has_cell (label_key x) = false
 has_cell (variable_key x) = true
 has_cell (number_key n) = true
 
-role_cell : (w : Words) (r : Role) (s : List ℕ) → not (is_label_lem r) ≡ has_cell (key_by w r s)
+role_cell : (w : Words) (r : Role) (s : List ℕ) → not (is_label r) ≡ has_cell (key_by w r s)
 role_cell w definition s = refl
 role_cell w target s = refl
 role_cell w listed s = refl
@@ -32,11 +32,11 @@ module _ (w : Words) where
   -- a new symbol with a cell adds one
   cells_new : (u : Use) (us : List Use) → has_cell (key w u) ≡ true → known w (key w u) us ≡ false → cells w (u ∷ us) ≡ suc (cells w us)
   cells_new u us c k =
-      let a : not (is_label_lem u.role) ≡ true = role_cell w u.role u.spelling ∙ c in
+      let a : not (is_label u.role) ≡ true = role_cell w u.role u.spelling ∙ c in
       rw (a, k)
 
   cells_grow : (u : Use) (us : List Use) → cells w us ≤ cells w (u ∷ us)
-  cells_grow u us = go (not (is_label_lem u.role) && not (known w (key w u) us))
+  cells_grow u us = go (not (is_label u.role) && not (known w (key w u) us))
     where
       go : (b : Bool) → cells w us ≤ count_if b (cells w us)
       go true = omega arith
@@ -128,40 +128,40 @@ module _ (w : Words) (ts : List Token) where
   pub words_share : (d e : List ℕ) → word w d ≡ word w e → literal_cell w ts d ≡ literal_cell w ts e
   words_share d e q = ap (λ (n : ℤ). cell w ts (number_key n)) q
 
-  cell_in : (u : Use) → In u (uses ts) → has_cell (key w u) ≡ true → (first_cell ≤ cell w ts (key w u)) × (cell w ts (key w u) < cells_used_lem w ts)
+  cell_in : (u : Use) → In u (uses ts) → has_cell (key w u) ≡ true → (first_cell ≤ cell w ts (key w u)) × (cell w ts (key w u) < cells_used w ts)
   cell_in u i c =
       let b : cells_before w (key w u) (uses ts) < cells w (uses ts) = below w (key w u) (uses ts) c (used_known w u (uses ts) i) in
       (omega arith, omega arith)
 
-  pub variable_in : (x : Name) → In (made variable_use x) (uses ts) → (first_cell ≤ variable_cell w ts x) × (variable_cell w ts x < cells_used_lem w ts)
+  pub variable_in : (x : Name) → In (made variable_use x) (uses ts) → (first_cell ≤ variable_cell w ts x) × (variable_cell w ts x < cells_used w ts)
   variable_in x i = cell_in (made variable_use x) i refl
 
-  pub literal_in : (d : List ℕ) → In (made number_use d) (uses ts) → (first_cell ≤ literal_cell w ts d) × (literal_cell w ts d < cells_used_lem w ts)
+  pub literal_in : (d : List ℕ) → In (made number_use d) (uses ts) → (first_cell ≤ literal_cell w ts d) × (literal_cell w ts d < cells_used w ts)
   literal_in d i = cell_in (made number_use d) i refl
 
 -- Without refusal there are few cells and few labels.
 module _ (w : Words) (ts : List Token) (clear : Clear w ts) where
   cells_step : (k : ℕ) (o : Option Use) → use_at (past ts k) (rest ts k) ≡ o → cells w (seen ts k) ≤ cell_limit → cells w (with_use o (seen ts k)) ≤ cell_limit
   cells_step k none e h = h
-  cells_step k (some u) e h = go (not (is_label_lem u.role) && not (known w (key w u) (seen ts k))) refl
+  cells_step k (some u) e h = go (not (is_label u.role) && not (known w (key w u) (seen ts k))) refl
     where
-      go : (b : Bool) → (not (is_label_lem u.role) && not (known w (key w u) (seen ts k))) ≡ b → count_if b (cells w (seen ts k)) ≤ cell_limit
+      go : (b : Bool) → (not (is_label u.role) && not (known w (key w u) (seen ts k))) ≡ b → count_if b (cells w (seen ts k)) ≤ cell_limit
       go false q = h
       go true q =
-          let p = and_parts (not (is_label_lem u.role)) (not (known w (key w u) (seen ts k))) q in
+          let p = and_parts (not (is_label u.role)) (not (known w (key w u) (seen ts k))) q in
           elim (cases_lt (cells w (seen ts k)) cell_limit) [
             | inl l ↦ l
-            | inr g ↦ absurd (clear k 7 (no_cell u.role u.spelling (record { is_used = e }) (not-true (is_label_lem u.role) p.0) (new_sound w ts k u.role u.spelling p.1) g))
+            | inr g ↦ absurd (clear k 7 (no_cell u.role u.spelling (record { is_used = e }) (not-true (is_label u.role) p.0) (new_sound w ts k u.role u.spelling p.1) g))
           ]
 
   labels_step : (k : ℕ) (o : Option Use) → use_at (past ts k) (rest ts k) ≡ o → labels w (seen ts k) ≤ label_limit → labels w (with_use o (seen ts k)) ≤ label_limit
   labels_step k none e h = h
-  labels_step k (some u) e h = go (is_label_lem u.role && not (known w (key w u) (seen ts k))) refl
+  labels_step k (some u) e h = go (is_label u.role && not (known w (key w u) (seen ts k))) refl
     where
-      go : (b : Bool) → (is_label_lem u.role && not (known w (key w u) (seen ts k))) ≡ b → count_if b (labels w (seen ts k)) ≤ label_limit
+      go : (b : Bool) → (is_label u.role && not (known w (key w u) (seen ts k))) ≡ b → count_if b (labels w (seen ts k)) ≤ label_limit
       go false q = h
       go true q =
-          let p = and_parts (is_label_lem u.role) (not (known w (key w u) (seen ts k))) q in
+          let p = and_parts (is_label u.role) (not (known w (key w u) (seen ts k))) q in
           elim (cases_lt (labels w (seen ts k)) label_limit) [
             | inl l ↦ l
             | inr g ↦ absurd (clear k 8 (no_label u.role u.spelling (record { is_used = e }) p.0 (new_sound w ts k u.role u.spelling p.1) g))
@@ -181,7 +181,7 @@ module _ (w : Words) (ts : List Token) (clear : Clear w ts) where
   few_of_labels : labels w (uses ts) ≤ label_limit
   few_of_labels = rw (all_seen ts) at (labels_seen (length ts))
 
-  pub few_cells : cells_used_lem w ts ≤ 512
+  pub few_cells : cells_used w ts ≤ 512
   few_cells = let h = few_of_cells in omega arith
 
 -- the symbols are as many as cells and labels together
@@ -198,7 +198,7 @@ module _ (w : Words) (address : Name → ℕ) where
   entered_count : (us : List Use) (p : ℕ) (o : Option Use) (ss : List Symbol) →
       count (with_use o us) + length ss ≡ count us + length (entered w address us p o ss)
   entered_count us p none ss = refl
-  entered_count us p (some u) ss = ap (λ (x : ℕ). x + length ss) (counted (is_label_lem u.role) (known w (key w u) us) (cells w us) (labels w us)) ∙ go (known w (key w u) us)
+  entered_count us p (some u) ss = ap (λ (x : ℕ). x + length ss) (counted (is_label u.role) (known w (key w u) us) (cells w us) (labels w us)) ∙ go (known w (key w u) us)
     where
       go : (b : Bool) → cond b (count us) (suc (count us)) + length ss ≡ count us + length (cond b ss (symbol w address us p u ∷ ss))
       go true = refl

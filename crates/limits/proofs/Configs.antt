@@ -170,7 +170,7 @@ reached ts k e = go (run begun ts) refl (sym (reach_is ts) ∙ e)
         let r : before c [] ≡ ts = run_reads begun ts c q [] ∙ append-nil ts in
         (c, some-injective (erase c) k h, ap reverse (sym r) ∙ back c)
 
--- Nesting: an expression leaves it as it was.
+-- Nesting: an expression leaves it was.
 mul_parts : (o : MulSign) (b : List Token) → (parts (mul_sign o ∷ b) ≡ parts b) × (depth (mul_sign o ∷ b) ≡ depth b)
 mul_parts multiplies b = (refl, refl)
 mul_parts divides b = (refl, refl)
@@ -386,7 +386,7 @@ role_config (to_name m k) j n r h = refused_name j (no_c k n) h
 role_config (of_word m k) j n r h = refl
 role_config (of_names m ns k) j n r h = refused_name j (no_c k n) h
 role_config (of_comma m ns k) j n r h =
-    listing_role (past_of (of_comma m ns k)) r (record { no_start = refl; no_to = refl; is_of_lem = labels_of ns (keyword Of ∷ name m ∷ keyword To ∷ keyword Go ∷ past_c k) })
+    listing_role (past_of (of_comma m ns k)) r (record { no_start = refl; no_to = refl; is_of = labels_of ns (keyword Of ∷ name m ∷ keyword To ∷ keyword Go ∷ past_c k) })
 role_config (read_word k) j n r h = refl
 role_config (read_names ns k) j n r h = refused_name j (no_c k n) h
 role_config (read_comma ns k) j n r h =

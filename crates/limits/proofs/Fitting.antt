@@ -171,7 +171,7 @@ labels_calm (sole n) b r p c =
 labels_calm (then l n) b r p c = go (labels_calm l b (sign Comma ∷ name n ∷ r) p c)
   where
     ready : Listing (sign Comma ∷ left_b name_t (sign Comma) l b)
-    ready = record { no_start = refl; no_to = refl; is_of_lem = labels_of l b ∙ p.is_of_lem }
+    ready = record { no_start = refl; no_to = refl; is_of = labels_of l b ∙ p.is_of }
 
     go : Listed l b (sign Comma ∷ name n ∷ r) → Listed (then l n) b r
     go x =
@@ -186,7 +186,7 @@ statement_calm nil b r h = (h, tt)
 statement_calm (set n e) b r h = whole e (sign Becomes ∷ name n ∷ keyword Let ∷ b) r refl h.1.1.1
 statement_calm (jump n) b r h = (h.1.1.1, tt)
 statement_calm (pick n ns) b r h =
-    picked (labels_calm ns (keyword Of ∷ name n ∷ keyword To ∷ keyword Go ∷ b) r (record { no_start = refl; no_to = refl; is_of_lem = refl }) h.1.1.1.1)
+    picked (labels_calm ns (keyword Of ∷ name n ∷ keyword To ∷ keyword Go ∷ b) r (record { no_start = refl; no_to = refl; is_of = refl }) h.1.1.1.1)
   where
     picked : Listed ns (keyword Of ∷ name n ∷ keyword To ∷ keyword Go ∷ b) r →
         Calm (left_b name_t (sign Comma) ns (keyword Of ∷ name n ∷ keyword To ∷ keyword Go ∷ b)) r × (suc (length (tail same_name ns)) ≤ list_limit)

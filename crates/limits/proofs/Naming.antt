@@ -7,7 +7,7 @@ use Rattle.token.specs.Tokens.{Token}
 use Rattle.trees.specs.Trees.{Name, Program}
 use Rattle.arithmetic.specs.Words.{Words}
 use Rattle.grammar.specs.Grammar.{Parses}
-use Rattle.limits.specs.Uses.{Role, definition, Use, made, In, at_head, in_tail, use_at, with_use, uses, is_literal, is_definition, is_label_lem}
+use Rattle.limits.specs.Uses.{Role, definition, Use, made, In, at_head, in_tail, use_at, with_use, uses, is_literal, is_definition, is_label}
 use Rattle.limits.specs.Rules.{name_limit, past, rest, seen, Used, Earlier, Met, long_name, second_definition, other_kind, Clear}
 use Rattle.limits.specs.Refusals.{among}
 use Rattle.limits.specs.Programs.{program_uses, Once}
@@ -56,7 +56,7 @@ module _ (ts : List Token) (p : Program) (d : Parses ts p) where
       let e = seen_earlier ts r x (length ts) (rw (all_seen ts) (in_tokens (made r x) i)) in
       (e.index, e.used)
 
-  pub defined : Met ts → (r : Role) (x : Name) → In (made r x) (program_uses p) → is_label_lem r ≡ true → In (made definition x) (program_uses p)
+  pub defined : Met ts → (r : Role) (x : Name) → In (made r x) (program_uses p) → is_label r ≡ true → In (made definition x) (program_uses p)
   defined met r x i l = go (way (among is_definition x (uses ts)))
     where
       go : Way (among is_definition x (uses ts)) → In (made definition x) (program_uses p)
@@ -74,8 +74,8 @@ module _ (ts : List Token) (p : Program) (d : Parses ts p) where
         elim (cases_lt name_limit (length x)) [ inl g ↦ absurd (clear k.0 4 (long_name r x k.1 l g)) | inr g ↦ g ]
 
     pub one_kind : (r q : Role) (x : Name) → In (made r x) (program_uses p) → In (made q x) (program_uses p) →
-        is_literal r ≡ false → is_literal q ≡ false → is_label_lem r ≡ is_label_lem q
-    one_kind r q x i j l m = same_bool (is_label_lem r) (is_label_lem q) (λ h. go h (at_index r x i) (at_index q x j))
+        is_literal r ≡ false → is_literal q ≡ false → is_label r ≡ is_label q
+    one_kind r q x i j l m = same_bool (is_label r) (is_label q) (λ h. go h (at_index r x i) (at_index q x j))
       where
         same_bool : (a b : Bool) → ((a ≡ b → ⊥) → ⊥) → a ≡ b
         same_bool true true h = refl
@@ -83,9 +83,9 @@ module _ (ts : List Token) (p : Program) (d : Parses ts p) where
         same_bool false true h = absurd (h (λ e. false≢true e))
         same_bool false false h = refl
 
-        go : (is_label_lem r ≡ is_label_lem q → ⊥) → (k : ℕ) × Used ts k r x → (k : ℕ) × Used ts k q x → ⊥
+        go : (is_label r ≡ is_label q → ⊥) → (k : ℕ) × Used ts k r x → (k : ℕ) × Used ts k q x → ⊥
         go h a b = elim (cases_order a.0 b.0) [
-          | inl e ↦ h (ap (λ (u : Use). is_label_lem u.role) (some-injective (made r x) (made q x)
+          | inl e ↦ h (ap (λ (u : Use). is_label u.role) (some-injective (made r x) (made q x)
               (sym (subst (λ (k : ℕ). use_at (past ts k) (rest ts k) ≡ some (made r x)) e a.1.is_used) ∙ b.1.is_used)))
           | inr o ↦ elim o [
             | inl g ↦ clear b.0 6 (other_kind q r x b.1 (record { index = a.0; earlier = g; used = a.1 }) m l (λ e. h (sym e)))

@@ -11,7 +11,7 @@ use Rattle.grammar.specs.Grammar.{Fault}
 use Rattle.grammar.specs.Recogniser.{stack_step, outset, reach, first_fault}
 use Rattle.grammar.proofs.Faults.{some_fault, program_none, fault_some}
 use Rattle.limits.specs.Rules.{tokens_of, Refused}
-use Rattle.limits.specs.Refusals.{lowest, or_else, fault_at_lem, limit_checks, checks, refused, first_refusal}
+use Rattle.limits.specs.Refusals.{lowest, or_else, fault_at, limit_checks, checks, refused, first_refusal}
 use Rattle.limits.specs.Pass.{or_fault, pass}
 use Rattle.limits.proofs.Search.{At, at_rest, at_next, at_start, drop_some}
 
@@ -20,21 +20,21 @@ module _ (w : Words) (n : ℕ) (ts : List Placed) where
   whole_list = tokens_of ts
 
   -- whether the first fault is at the k-th token
-  fault_here : (k : ℕ) (before : List Token) → length before ≡ k → Fault whole_list k → fault_at_lem (first_fault whole_list) (length before) ≡ true
+  fault_here : (k : ℕ) (before : List Token) → length before ≡ k → Fault whole_list k → fault_at (first_fault whole_list) (length before) ≡ true
   fault_here k before h f = rw (fault_some whole_list k f) (eq-eqb k (length before) (sym h))
 
-  no_fault_here : (k : ℕ) (before : List Token) → length before ≡ k → (Fault whole_list k → ⊥) → fault_at_lem (first_fault whole_list) (length before) ≡ false
+  no_fault_here : (k : ℕ) (before : List Token) → length before ≡ k → (Fault whole_list k → ⊥) → fault_at (first_fault whole_list) (length before) ≡ false
   no_fault_here k before h g = go (first_fault whole_list) refl
     where
-      go : (o : Option ℕ) → first_fault whole_list ≡ o → fault_at_lem o (length before) ≡ false
+      go : (o : Option ℕ) → first_fault whole_list ≡ o → fault_at o (length before) ≡ false
       go none e = refl
       go (some j) e = ne_eqb j (length before) (λ q. g (subst (λ (i : ℕ). Fault whole_list i) (q ∙ h) (some_fault whole_list j e)))
 
-  three : (before after : List Token) (p : ℕ) → fault_at_lem (first_fault whole_list) (length before) ≡ true →
+  three : (before after : List Token) (p : ℕ) → fault_at (first_fault whole_list) (length before) ≡ true →
       refused (lowest (checks w (first_fault whole_list) before after)) p ≡ some (record { number = 3; place = p })
   three before after p e = rw e
 
-  not_three : (before after : List Token) → fault_at_lem (first_fault whole_list) (length before) ≡ false →
+  not_three : (before after : List Token) → fault_at (first_fault whole_list) (length before) ≡ false →
       lowest (checks w (first_fault whole_list) before after) ≡ lowest (limit_checks w before after)
   not_three before after e = rw e
 

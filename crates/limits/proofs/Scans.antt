@@ -191,17 +191,17 @@ variables_scan ns b r p =
 pub record Listing (b : List Token) : Type 0 where
   pub no_start : command_starts b ≡ false
   pub no_to : after_to b ≡ false
-  pub is_of_lem : after_of b ≡ true
+  pub is_of : after_of b ≡ true
 
 pub listing_role : (b r : List Token) → Listing b → name_role b r ≡ listed
-listing_role b r p = rw (p.no_start, p.no_to, p.is_of_lem)
+listing_role b r p = rw (p.no_start, p.no_to, p.is_of)
 
 labels_scan : (ns : Names) (b r : List Token) → Listing b →
     scan b (names_t ns r) ≡ each (name_uses listed) (head same_name ns ∷ tail same_name ns) ++ scan (left_b name_t (sign Comma) ns b) r
 labels_scan ns b r p =
     left_scan same_name name_t name_t (name_uses listed) (sign Comma) Listing Any
     (λ n c q h g. ap (λ (x : Role). made x n ∷ scan (name n ∷ c) q) (listing_role c q h)) (λ c q. refl)
-    (λ n c h. record { no_start = refl; no_to = refl; is_of_lem = h.is_of_lem }) (λ q. tt) ns b r p tt
+    (λ n c h. record { no_start = refl; no_to = refl; is_of = h.is_of }) (λ q. tt) ns b r p tt
 
 sums_scan : (es : Sums) (b r : List Token) → Plain b →
     scan b (sums_t es r) ≡ each expression_uses (head sum_tree es ∷ tail sum_tree es) ++ scan (left_b sum_b (sign Comma) es b) r
@@ -232,7 +232,7 @@ statement_scan (set n e) b r h g =
 statement_scan (jump n) b r h g = ap (λ (x : Role). made x n ∷ scan (name n ∷ keyword To ∷ keyword Go ∷ b) r) (jump_role (keyword Go ∷ b) r g)
 statement_scan (pick n ns) b r h g =
     ap (λ (z : List Use). made variable_use n ∷ z)
-    (labels_scan ns (keyword Of ∷ name n ∷ keyword To ∷ keyword Go ∷ b) r (record { no_start = refl; no_to = refl; is_of_lem = refl }))
+    (labels_scan ns (keyword Of ∷ name n ∷ keyword To ∷ keyword Go ∷ b) r (record { no_start = refl; no_to = refl; is_of = refl }))
 statement_scan read_none b r h g = refl
 statement_scan (read_some ns) b r h g = variables_scan ns (keyword Read ∷ b) r (record { no_start = refl; no_to = refl; no_of = refl })
 statement_scan print_none b r h g = refl

@@ -10,7 +10,7 @@ use Rattle.arithmetic.specs.Words.{Words}
 use Rattle.grammar.specs.Tests.{is}
 use Rattle.grammar.specs.Grammar.{Fault, at_token, at_end}
 use Rattle.grammar.specs.Recogniser.{first_fault}
-use Rattle.limits.specs.Uses.{Role, definition, listed, Use, made, In, use_at, uses, is_definition, is_label_lem, is_operator}
+use Rattle.limits.specs.Uses.{Role, definition, listed, Use, made, In, use_at, uses, is_definition, is_label, is_operator}
 use Rattle.limits.specs.Rules.{here, past, rest, seen, Used, Earlier, Unmet, Rule, no_program, long_name, second_definition, other_kind, no_cell, no_label, many_operators, deep_parenthesis, deep_if, long_list, tokens_of, place, Refused}
 use Rattle.limits.specs.Refusals.{lowest, or_else, among, checks, refused, first_refusal, unmet, first_unmet}
 use Rattle.limits.proofs.Keys.{Way, holds, fails, way, clash, among_sound, among_complete}
@@ -217,10 +217,10 @@ missing_here ts k = go (use_at (past ts k) (rest ts k)) refl
     same : (u : Use) → use_at (past ts k) (rest ts k) ≡ some u → (x : Unmet ts k) → u ≡ made x.role x.spelling
     same u e x = some-injective u (made x.role x.spelling) (sym e ∙ x.mentioned.is_used)
 
-    by : (u : Use) → use_at (past ts k) (rest ts k) ≡ some u → (b : Bool) → (is_label_lem u.role && not (among is_definition u.spelling (uses ts))) ≡ b →
+    by : (u : Use) → use_at (past ts k) (rest ts k) ≡ some u → (b : Bool) → (is_label u.role && not (among is_definition u.spelling (uses ts))) ≡ b →
         Missing ts k (cond b (some 12) none)
     by u e true h =
-        let p = and_parts (is_label_lem u.role) (not (among is_definition u.spelling (uses ts))) h in (
+        let p = and_parts (is_label u.role) (not (among is_definition u.spelling (uses ts))) h in (
           refl,
           record {
             role = u.role;
@@ -233,9 +233,9 @@ missing_here ts k = go (use_at (past ts k) (rest ts k)) refl
     by u e false h = λ x.
         let q : u ≡ made x.role x.spelling = same u e x in
         let f : among is_definition x.spelling (uses ts) ≡ false = nowhere_false x (way (among is_definition x.spelling (uses ts))) in
-        let g : (is_label_lem x.role && not (among is_definition x.spelling (uses ts))) ≡ true =
-        and_from (is_label_lem x.role) (not (among is_definition x.spelling (uses ts))) x.label (not_from_false (among is_definition x.spelling (uses ts)) f) in
-        clash (subst (λ (v : Use). (is_label_lem v.role && not (among is_definition v.spelling (uses ts))) ≡ true) (sym q) g) h
+        let g : (is_label x.role && not (among is_definition x.spelling (uses ts))) ≡ true =
+        and_from (is_label x.role) (not (among is_definition x.spelling (uses ts))) x.label (not_from_false (among is_definition x.spelling (uses ts)) f) in
+        clash (subst (λ (v : Use). (is_label v.role && not (among is_definition v.spelling (uses ts))) ≡ true) (sym q) g) h
       where
         nowhere_false : (x : Unmet ts k) → Way (among is_definition x.spelling (uses ts)) → among is_definition x.spelling (uses ts) ≡ false
         nowhere_false x (fails z) = z
@@ -243,7 +243,7 @@ missing_here ts k = go (use_at (past ts k) (rest ts k)) refl
 
     go : (o : Option Use) → use_at (past ts k) (rest ts k) ≡ o → Missing ts k (unmet (uses ts) o)
     go none e = unused e
-    go (some u) e = by u e (is_label_lem u.role && not (among is_definition u.spelling (uses ts))) refl
+    go (some u) e = by u e (is_label u.role && not (among is_definition u.spelling (uses ts))) refl
 
 module _ (ts : List Placed) (n : ℕ) where
   abbrev texts : List Token

@@ -10,9 +10,9 @@ use Rattle.grammar.specs.Tests.{is}
 use Rattle.grammar.specs.Grammar.{Fault}
 use Rattle.grammar.specs.Recogniser.{first_fault}
 use Rattle.grammar.proofs.Faults.{some_fault, fault_some}
-use Rattle.limits.specs.Uses.{Role, definition, target, listed, variable_use, number_use, Use, made, In, use_at, is_literal, is_definition, is_listed_lem, is_label_lem, key_by, known, cells, labels, is_operator, operators, depth, parts, names}
+use Rattle.limits.specs.Uses.{Role, definition, target, listed, variable_use, number_use, Use, made, In, use_at, is_literal, is_definition, is_listed, is_label, key_by, known, cells, labels, is_operator, operators, depth, parts, names}
 use Rattle.limits.specs.Rules.{name_limit, cell_limit, label_limit, operator_limit, depth_limit, list_limit, here, past, rest, seen, Used, Earlier, New, Rule, no_program, long_name, second_definition, other_kind, no_cell, no_label, many_operators, deep_parenthesis, deep_if, long_list}
-use Rattle.limits.specs.Refusals.{Check, among, unlike, differ, used_so, fault_at_lem, checks}
+use Rattle.limits.specs.Refusals.{Check, among, unlike, differ, used_so, fault_at, checks}
 use Rattle.limits.proofs.Keys.{Way, holds, fails, way, clash, among_sound, among_complete, known_sound, known_complete}
 use Rattle.limits.proofs.Lists.{earlier_seen, seen_earlier}
 use Rattle.limits.proofs.Checks.{Found}
@@ -32,7 +32,7 @@ only_definition listed e = absurd (false≢true e)
 only_definition variable_use e = absurd (false≢true e)
 only_definition number_use e = absurd (false≢true e)
 
-only_listed : (r : Role) → is_listed_lem r ≡ true → r ≡ listed
+only_listed : (r : Role) → is_listed r ≡ true → r ≡ listed
 only_listed definition e = absurd (false≢true e)
 only_listed target e = absurd (false≢true e)
 only_listed listed e = refl
@@ -109,52 +109,52 @@ module _ (w : Words) (ts : List Token) (k : ℕ) where
   other_sound e =
       let x = used_sound other (use_at before after) e in
       let y = among_sound (differ x.0) x.1 us x.3 in
-      let p = and_parts (not (is_literal x.0)) (not (is_literal y.0) && unlike (is_label_lem x.0) (is_label_lem y.0)) y.2 in
-      let q = and_parts (not (is_literal y.0)) (unlike (is_label_lem x.0) (is_label_lem y.0)) p.1 in
+      let p = and_parts (not (is_literal x.0)) (not (is_literal y.0) && unlike (is_label x.0) (is_label y.0)) y.2 in
+      let q = and_parts (not (is_literal y.0)) (unlike (is_label x.0) (is_label y.0)) p.1 in
       other_kind x.0 y.0 x.1 (record { is_used = x.2 }) (seen_earlier ts y.0 x.1 k y.1)
-      (not-true (is_literal x.0) p.0) (not-true (is_literal y.0) q.0) (unlike_sound (is_label_lem x.0) (is_label_lem y.0) q.1)
+      (not-true (is_literal x.0) p.0) (not-true (is_literal y.0) q.0) (unlike_sound (is_label x.0) (is_label y.0) q.1)
 
   -- 7 and 8
   abbrev full : Role → List ℕ → Bool
-  full r s = not (is_label_lem r) && (not (known w (key_by w r s) us) && leb cell_limit (cells w us))
+  full r s = not (is_label r) && (not (known w (key_by w r s) us) && leb cell_limit (cells w us))
 
   full_sound : used_so full (use_at before after) ≡ true → Rule w ts k 7
   full_sound e =
       let x = used_sound full (use_at before after) e in
-      let p = and_parts (not (is_label_lem x.0)) (not (known w (key_by w x.0 x.1) us) && leb cell_limit (cells w us)) x.3 in
+      let p = and_parts (not (is_label x.0)) (not (known w (key_by w x.0 x.1) us) && leb cell_limit (cells w us)) x.3 in
       let q = and_parts (not (known w (key_by w x.0 x.1) us)) (leb cell_limit (cells w us)) p.1 in
-      no_cell x.0 x.1 (record { is_used = x.2 }) (not-true (is_label_lem x.0) p.0) (new_sound x.0 x.1 q.0) (leb-true cell_limit (cells w us) q.1)
+      no_cell x.0 x.1 (record { is_used = x.2 }) (not-true (is_label x.0) p.0) (new_sound x.0 x.1 q.0) (leb-true cell_limit (cells w us) q.1)
 
   abbrev labelled : Role → List ℕ → Bool
-  labelled r s = is_label_lem r && (not (known w (key_by w r s) us) && leb label_limit (labels w us))
+  labelled r s = is_label r && (not (known w (key_by w r s) us) && leb label_limit (labels w us))
 
   labelled_sound : used_so labelled (use_at before after) ≡ true → Rule w ts k 8
   labelled_sound e =
       let x = used_sound labelled (use_at before after) e in
-      let p = and_parts (is_label_lem x.0) (not (known w (key_by w x.0 x.1) us) && leb label_limit (labels w us)) x.3 in
+      let p = and_parts (is_label x.0) (not (known w (key_by w x.0 x.1) us) && leb label_limit (labels w us)) x.3 in
       let q = and_parts (not (known w (key_by w x.0 x.1) us)) (leb label_limit (labels w us)) p.1 in
       no_label x.0 x.1 (record { is_used = x.2 }) p.0 (new_sound x.0 x.1 q.0) (leb-true label_limit (labels w us) q.1)
 
   -- 11
   abbrev listing : Role → List ℕ → Bool
-  listing r s = is_listed_lem r && leb list_limit (names before)
+  listing r s = is_listed r && leb list_limit (names before)
 
   listing_sound : used_so listing (use_at before after) ≡ true → Rule w ts k 11
   listing_sound e =
       let x = used_sound listing (use_at before after) e in
-      let p = and_parts (is_listed_lem x.0) (leb list_limit (names before)) x.3 in
+      let p = and_parts (is_listed x.0) (leb list_limit (names before)) x.3 in
       let u : Used ts k listed x.1 = record { is_used = x.2 ∙ ap (λ (r : Role). some (made r x.1)) (only_listed x.0 p.0) } in
       long_list x.1 u (leb-true list_limit (names before) p.1)
 
   -- the first fault
-  fault_sound : length before ≡ k → fault_at_lem (first_fault ts) (length before) ≡ true → Rule w ts k 3
+  fault_sound : length before ≡ k → fault_at (first_fault ts) (length before) ≡ true → Rule w ts k 3
   fault_sound h e = go (first_fault ts) refl e
     where
-      go : (o : Option ℕ) → first_fault ts ≡ o → fault_at_lem o (length before) ≡ true → Rule w ts k 3
+      go : (o : Option ℕ) → first_fault ts ≡ o → fault_at o (length before) ≡ true → Rule w ts k 3
       go none q f = absurd (false≢true f)
       go (some j) q f = no_program (some_fault ts k (q ∙ ap {B = Option ℕ} some (eqb-true j (length before) f ∙ h)))
 
-  fault_complete : length before ≡ k → Fault ts k → fault_at_lem (first_fault ts) (length before) ≡ true
+  fault_complete : length before ≡ k → Fault ts k → fault_at (first_fault ts) (length before) ≡ true
   fault_complete h f = rw (fault_some ts k f) (eq-eqb k (length before) (sym h))
 
   abbrev pub all : List Check
@@ -195,21 +195,21 @@ module _ (w : Words) (ts : List Token) (k : ℕ) where
       inr (inr (inr (inl (
         refl,
         used_complete other (use_at before after) r s u.is_used (among_complete (differ r) q s us (earlier_seen ts q s k x)
-            (and_from (not (is_literal r)) (not (is_literal q) && unlike (is_label_lem r) (is_label_lem q)) (not_from_false (is_literal r) l)
-            (and_from (not (is_literal q)) (unlike (is_label_lem r) (is_label_lem q)) (not_from_false (is_literal q) m) (unlike_complete (is_label_lem r) (is_label_lem q) g)))),
+            (and_from (not (is_literal r)) (not (is_literal q) && unlike (is_label r) (is_label q)) (not_from_false (is_literal r) l)
+            (and_from (not (is_literal q)) (unlike (is_label r) (is_label q)) (not_from_false (is_literal q) m) (unlike_complete (is_label r) (is_label q) g)))),
       ))))
   rule_found h n (no_cell r s u l x g) =
       inr (inr (inr (inr (inl (
         refl,
         used_complete full (use_at before after) r s u.is_used
-            (and_from (not (is_label_lem r)) (not (known w (key_by w r s) us) && leb cell_limit (cells w us)) (not_from_false (is_label_lem r) l)
+            (and_from (not (is_label r)) (not (known w (key_by w r s) us) && leb cell_limit (cells w us)) (not_from_false (is_label r) l)
             (and_from (not (known w (key_by w r s) us)) (leb cell_limit (cells w us)) (new_complete r s x) (le-leb cell_limit (cells w us) g))),
       )))))
   rule_found h n (no_label r s u l x g) =
       inr (inr (inr (inr (inr (inl (
         refl,
         used_complete labelled (use_at before after) r s u.is_used
-            (and_from (is_label_lem r) (not (known w (key_by w r s) us) && leb label_limit (labels w us)) l
+            (and_from (is_label r) (not (known w (key_by w r s) us) && leb label_limit (labels w us)) l
             (and_from (not (known w (key_by w r s) us)) (leb label_limit (labels w us)) (new_complete r s x) (le-leb label_limit (labels w us) g))),
       ))))))
   rule_found h n (many_operators e g) = inr (inr (inr (inr (inr (inr (inl (refl, from_sign (here is_operator after) operator_limit (operators before) e g)))))))

@@ -5,7 +5,7 @@ use Rattle.std.proofs.lemmas.Bool.{not-true, or_right, not_from_false}
 use Rattle.token.specs.Tokens.{Token, Placed}
 use Rattle.trees.specs.Trees.{Name}
 use Rattle.arithmetic.specs.Words.{Words}
-use Rattle.limits.specs.Uses.{Use, made, In, at_head, in_tail, use_at, with_use, uses_before, uses, is_label_lem, same_key, key, known, cells}
+use Rattle.limits.specs.Uses.{Use, made, In, at_head, in_tail, use_at, with_use, uses_before, uses, is_label, same_key, key, known, cells}
 use Rattle.limits.specs.Rules.{past, rest, seen, New, tokens_of, place}
 use Rattle.limits.specs.Symbols.{kind_of, Symbol, first_cell, cells_before, cell, symbol, entered, symbols_after, symbols, FirstUse}
 use Rattle.limits.proofs.Keys.{known_complete}
@@ -60,13 +60,13 @@ module _ (w : Words) (address : Name → ℕ) (ts : List Placed) where
         kind = kind_of u.role;
         place = place 0 (drop k ts);
         length = length u.spelling;
-        at = cond (is_label_lem u.role) (address u.spelling) (cell w tokens (key w u));
+        at = cond (is_label u.role) (address u.spelling) (cell w tokens (key w u));
       }
   symbol_is k u e h p q = (λ i. record {
     kind = kind_of u.role;
     place = sym q i;
     length = length u.spelling;
-    at = cond (is_label_lem u.role) (address u.spelling) (first_cell + sym (first_cell_is w tokens k u e h) i);
+    at = cond (is_label u.role) (address u.spelling) (first_cell + sym (first_cell_is w tokens k u e h) i);
   })
 
   -- at the k-th token
@@ -154,7 +154,7 @@ module _ (w : Words) (address : Name → ℕ) (ts : List Placed) where
             kind = kind_of f.role;
             place = place 0 (drop (q i) ts);
             length = length f.spelling;
-            at = cond (is_label_lem f.role) (address f.spelling) (cell w tokens (key w u));
+            at = cond (is_label f.role) (address f.spelling) (cell w tokens (key w u));
           })
           ∙ sym f.is_symbol in
           let d : In (symbol w address (seen tokens k) p.offset u)

@@ -8,10 +8,10 @@ use Rattle.trees.specs.Trees.{Name, Program, commands}
 use Rattle.arithmetic.specs.Words.{Words}
 use Rattle.grammar.specs.Grammar.{Parses}
 use Rattle.grammar.specs.Recogniser.{stack_step, outset, reach, first_fault}
-use Rattle.limits.specs.Uses.{Role, definition, variable_use, number_use, Use, made, In, before_of, name_role, uses, is_literal, is_label_lem, depth, parts}
+use Rattle.limits.specs.Uses.{Role, definition, variable_use, number_use, Use, made, In, before_of, name_role, uses, is_literal, is_label, depth, parts}
 use Rattle.limits.specs.Rules.{name_limit, depth_limit, past, Met, Rule, Clear, tokens_of, Refused, Refusal, Accepted}
 use Rattle.limits.specs.Refusals.{first_refusal, refusal}
-use Rattle.limits.specs.Symbols.{Symbol, first_cell, variable_cell, literal_cell, cells_used_lem, symbols, FirstUse}
+use Rattle.limits.specs.Symbols.{Symbol, first_cell, variable_cell, literal_cell, cells_used, symbols, FirstUse}
 use Rattle.limits.specs.Programs.{program_uses, All, Fits, Once}
 use Rattle.limits.specs.States.{state_role}
 use Rattle.limits.specs.Pass.{pass}
@@ -40,11 +40,11 @@ pub record Cells : Type 0 where
   pub words_share : (w : Words) (ts : List Token) (d e : List ℕ) → word w d ≡ word w e → literal_cell w ts d ≡ literal_cell w ts e
   -- each cell is among those in use, past the temporaries
   pub variable_in : (w : Words) (ts : List Token) (x : Name) → In (made variable_use x) (uses ts) →
-      (first_cell ≤ variable_cell w ts x) × (variable_cell w ts x < cells_used_lem w ts)
+      (first_cell ≤ variable_cell w ts x) × (variable_cell w ts x < cells_used w ts)
   pub literal_in : (w : Words) (ts : List Token) (d : List ℕ) → In (made number_use d) (uses ts) →
-      (first_cell ≤ literal_cell w ts d) × (literal_cell w ts d < cells_used_lem w ts)
+      (first_cell ≤ literal_cell w ts d) × (literal_cell w ts d < cells_used w ts)
   -- without refusal there are at most 512 cells and 702 symbols
-  pub few_cells : (w : Words) (ts : List Token) → Clear w ts → cells_used_lem w ts ≤ 512
+  pub few_cells : (w : Words) (ts : List Token) → Clear w ts → cells_used w ts ≤ 512
   pub few_symbols : (w : Words) (address : Name → ℕ) (ts : List Placed) → Clear w (tokens_of ts) → length (symbols w address ts) ≤ 702
 
 -- The table has a symbol for each first use, and no other.
@@ -63,11 +63,11 @@ pub record Trees : Type 0 where
   pub short_names : (w : Words) (ts : List Token) (p : Program) → Clear w ts → Parses ts p → (r : Role) (x : Name) →
       In (made r x) (program_uses p) → is_literal r ≡ false → length x ≤ name_limit
   pub one_kind : (w : Words) (ts : List Token) (p : Program) → Clear w ts → Parses ts p → (r q : Role) (x : Name) →
-      In (made r x) (program_uses p) → In (made q x) (program_uses p) → is_literal r ≡ false → is_literal q ≡ false → is_label_lem r ≡ is_label_lem q
+      In (made r x) (program_uses p) → In (made q x) (program_uses p) → is_literal r ≡ false → is_literal q ≡ false → is_label r ≡ is_label q
   -- no label stands before two commands, and each that is mentioned stands before one
   pub once : (w : Words) (ts : List Token) (p : Program) → Clear w ts → Parses ts p → Once (program_uses p)
   pub defined : (ts : List Token) (p : Program) → Met ts → Parses ts p → (r : Role) (x : Name) →
-      In (made r x) (program_uses p) → is_label_lem r ≡ true → In (made definition x) (program_uses p)
+      In (made r x) (program_uses p) → is_label r ≡ true → In (made definition x) (program_uses p)
 
 -- What the recogniser's stack says of the tokens that it has taken.
 pub record States : Type 0 where

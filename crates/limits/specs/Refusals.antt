@@ -11,7 +11,7 @@ use Rattle.arithmetic.specs.Words.{Words}
 use Rattle.grammar.specs.Tests.{is}
 use Rattle.grammar.specs.Machine.{parse}
 use Rattle.grammar.specs.Recogniser.{first_fault}
-use Rattle.limits.specs.Uses.{Role, Use, use_at, uses_before, uses, is_literal, is_definition, is_listed_lem, is_label_lem, key_by, known, cells, labels, is_operator, operators, depth, parts, names}
+use Rattle.limits.specs.Uses.{Role, Use, use_at, uses_before, uses, is_literal, is_definition, is_listed, is_label, key_by, known, cells, labels, is_operator, operators, depth, parts, names}
 use Rattle.limits.specs.Rules.{text_limit, name_limit, cell_limit, label_limit, operator_limit, depth_limit, list_limit, code_limit, here, past, rest, tokens_of, Refused}
 
 -- a refusal's number, and whether it stands
@@ -38,7 +38,7 @@ unlike false b = b
 
 -- one is a label's role and the other a variable's
 abbrev pub differ : Role → Role → Bool
-differ r q = not (is_literal r) && (not (is_literal q) && unlike (is_label_lem r) (is_label_lem q))
+differ r q = not (is_literal r) && (not (is_literal q) && unlike (is_label r) (is_label q))
 
 -- there is a use, and it passes a test
 abbrev pub used_so : (Role → List ℕ → Bool) → Option Use → Bool
@@ -46,9 +46,9 @@ used_so test none = false
 used_so test (some u) = test u.role u.spelling
 
 -- the first fault is at the index k
-abbrev pub fault_at_lem : Option ℕ → ℕ → Bool
-fault_at_lem none k = false
-fault_at_lem (some j) k = j == k
+abbrev pub fault_at : Option ℕ → ℕ → Bool
+fault_at none k = false
+fault_at (some j) k = j == k
 
 -- the refusals 4 to 11 after the tokens past, by number: at the use u, after the uses us
 abbrev pub limit_checks_at : Words → List Token → List Token → List Use → Option Use → List Check
@@ -56,12 +56,12 @@ limit_checks_at w past rest us u =
     check 4 (used_so (λ r s. not (is_literal r) && nat_lt name_limit (length s)) u)
     ∷ check 5 (used_so (λ r s. is_definition r && among is_definition s us) u)
     ∷ check 6 (used_so (λ r s. among (differ r) s us) u)
-    ∷ check 7 (used_so (λ r s. not (is_label_lem r) && (not (known w (key_by w r s) us) && nat_le cell_limit (cells w us))) u)
-    ∷ check 8 (used_so (λ r s. is_label_lem r && (not (known w (key_by w r s) us) && nat_le label_limit (labels w us))) u)
+    ∷ check 7 (used_so (λ r s. not (is_label r) && (not (known w (key_by w r s) us) && nat_le cell_limit (cells w us))) u)
+    ∷ check 8 (used_so (λ r s. is_label r && (not (known w (key_by w r s) us) && nat_le label_limit (labels w us))) u)
     ∷ check 9 (here is_operator rest && nat_le operator_limit (operators past))
     ∷ check 10 (here (is (sign Open)) rest && nat_le depth_limit (depth past))
     ∷ check 10 (here (is (keyword If)) rest && nat_le depth_limit (length (parts past)))
-    ∷ check 11 (used_so (λ r s. is_listed_lem r && nat_le list_limit (names past)) u)
+    ∷ check 11 (used_so (λ r s. is_listed r && nat_le list_limit (names past)) u)
     ∷ []
 
 abbrev pub limit_checks : Words → List Token → List Token → List Check
@@ -69,7 +69,7 @@ limit_checks w past rest = limit_checks_at w past rest (uses_before past rest) (
 
 -- with refusal 3, where f is the index of the first fault
 abbrev pub checks : Words → Option ℕ → List Token → List Token → List Check
-checks w f past rest = check 3 (fault_at_lem f (length past)) ∷ limit_checks w past rest
+checks w f past rest = check 3 (fault_at f (length past)) ∷ limit_checks w past rest
 
 abbrev pub refused : Option ℕ → ℕ → Option Refused
 refused none p = none
@@ -84,7 +84,7 @@ first_refusal w f n past (p ∷ ps) =
 -- a label that is not among the definitions
 abbrev pub unmet : List Use → Option Use → Option ℕ
 unmet us none = none
-unmet us (some u) = cond (is_label_lem u.role && not (among is_definition u.spelling us)) (some 12) none
+unmet us (some u) = cond (is_label u.role && not (among is_definition u.spelling us)) (some 12) none
 
 abbrev pub first_unmet : List Use → List Token → List Placed → Option Refused
 first_unmet us past [] = none

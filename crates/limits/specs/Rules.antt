@@ -8,7 +8,7 @@ use Rattle.trees.specs.Trees.{Program}
 use Rattle.arithmetic.specs.Words.{Words}
 use Rattle.grammar.specs.Tests.{is}
 use Rattle.grammar.specs.Grammar.{Parses, Fault}
-use Rattle.limits.specs.Uses.{Role, definition, listed, Use, made, use_at, uses_before, is_literal, is_label_lem, key_by, cells, labels, is_operator, operators, depth, parts, names}
+use Rattle.limits.specs.Uses.{Role, definition, listed, Use, made, use_at, uses_before, is_literal, is_label, key_by, cells, labels, is_operator, operators, depth, parts, names}
 
 -- The limits.
 
@@ -74,7 +74,7 @@ module _ (ts : List Token) where
     pub role : Role
     pub spelling : List ℕ
     pub mentioned : Used k role spelling
-    pub label : is_label_lem role ≡ true
+    pub label : is_label role ≡ true
     pub nowhere : (j : ℕ) → Used j definition spelling → ⊥
 
   -- each label that is mentioned stands before a command
@@ -97,10 +97,10 @@ module _ (w : Words) (ts : List Token) where
     second_definition : (s : List ℕ) → Used ts k definition s → Earlier ts k definition s → Rule k 5
     -- a name is used as a label and as a variable
     other_kind : (r q : Role) (s : List ℕ) → Used ts k r s → Earlier ts k q s → is_literal r ≡ false → is_literal q ≡ false →
-        (is_label_lem r ≢ is_label_lem q) → Rule k 6
+        (is_label r ≢ is_label q) → Rule k 6
     -- one variable or number word too many; one label too many
-    no_cell : (r : Role) (s : List ℕ) → Used ts k r s → is_label_lem r ≡ false → New k r s → cell_limit ≤ cells w (seen ts k) → Rule k 7
-    no_label : (r : Role) (s : List ℕ) → Used ts k r s → is_label_lem r ≡ true → New k r s → label_limit ≤ labels w (seen ts k) → Rule k 8
+    no_cell : (r : Role) (s : List ℕ) → Used ts k r s → is_label r ≡ false → New k r s → cell_limit ≤ cells w (seen ts k) → Rule k 7
+    no_label : (r : Role) (s : List ℕ) → Used ts k r s → is_label r ≡ true → New k r s → label_limit ≤ labels w (seen ts k) → Rule k 8
     -- one operator of a whole expression too many
     many_operators : here is_operator (rest ts k) ≡ true → operator_limit ≤ operators (past ts k) → Rule k 9
     -- "(" too deep in parentheses, IF too deep in IFs
@@ -138,7 +138,7 @@ module _ (w : Words) (size : Program → ℕ) (n : ℕ) (ts : List Placed) where
     unmet_label : (k : ℕ) → n ≤ text_limit → Clear w (tokens_of ts) → Unmet (tokens_of ts) k →
         ((j : ℕ) → j < k → Unmet (tokens_of ts) j → ⊥) →
         Refusal (record { number = 12; place = place n (drop k ts) })
-    long_code_lem : (p : Program) → n ≤ text_limit → Clear w (tokens_of ts) → Met (tokens_of ts) →
+    long_code : (p : Program) → n ≤ text_limit → Clear w (tokens_of ts) → Met (tokens_of ts) →
         Parses (tokens_of ts) p → code_limit < size p → Refusal (record { number = 13; place = 0 })
 
   -- a text without refusal

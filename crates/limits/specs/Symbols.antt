@@ -5,7 +5,7 @@ use Rattle.token.specs.Tokens.{Token, Placed}
 use Rattle.token.specs.Numbers.{word}
 use Rattle.trees.specs.Trees.{Name}
 use Rattle.arithmetic.specs.Words.{Words}
-use Rattle.limits.specs.Uses.{Role, definition, target, listed, variable_use, number_use, Use, use_at, uses_before, uses, is_label_lem, Key, variable_key, number_key, key_by, key, known, cells}
+use Rattle.limits.specs.Uses.{Role, definition, target, listed, variable_use, number_use, Use, use_at, uses_before, uses, is_label, Key, variable_key, number_key, key_by, key, known, cells}
 use Rattle.limits.specs.Rules.{past, Used, New, tokens_of, place}
 
 pub data Kind : Type 0 where
@@ -53,8 +53,8 @@ abbrev pub literal_cell : Words → List Token → List ℕ → ℕ
 literal_cell w ts digits = cell w ts (number_key (word w digits))
 
 -- the number of cells in use
-abbrev pub cells_used_lem : Words → List Token → ℕ
-cells_used_lem w ts = first_cell + cells w (uses ts)
+abbrev pub cells_used : Words → List Token → ℕ
+cells_used w ts = first_cell + cells w (uses ts)
 
 -- Of a text's tokens, where `address` says which word of the code a label names.
 module _ (w : Words) (address : Name → ℕ) where
@@ -64,7 +64,7 @@ module _ (w : Words) (address : Name → ℕ) where
     kind = kind_of u.role;
     place = p;
     length = length u.spelling;
-    at = cond (is_label_lem u.role) (address u.spelling) (first_cell + cells w us);
+    at = cond (is_label u.role) (address u.spelling) (first_cell + cells w us);
   }
 
   abbrev pub entered : List Use → ℕ → Option Use → List Symbol → List Symbol
@@ -92,5 +92,5 @@ module _ (w : Words) (address : Name → ℕ) where
       kind = kind_of role;
       place = place 0 (drop index ts);
       length = length spelling;
-      at = cond (is_label_lem role) (address spelling) (cell w (tokens_of ts) (key_by w role spelling));
+      at = cond (is_label role) (address spelling) (cell w (tokens_of ts) (key_by w role spelling));
     }

@@ -98,20 +98,20 @@ is_definition listed = false
 is_definition variable_use = false
 is_definition number_use = false
 
-abbrev pub is_listed_lem : Role → Bool
-is_listed_lem definition = false
-is_listed_lem target = false
-is_listed_lem listed = true
-is_listed_lem variable_use = false
-is_listed_lem number_use = false
+abbrev pub is_listed : Role → Bool
+is_listed definition = false
+is_listed target = false
+is_listed listed = true
+is_listed variable_use = false
+is_listed number_use = false
 
 -- a label; else it has a cell
-abbrev pub is_label_lem : Role → Bool
-is_label_lem definition = true
-is_label_lem target = true
-is_label_lem listed = true
-is_label_lem variable_use = false
-is_label_lem number_use = false
+abbrev pub is_label : Role → Bool
+is_label definition = true
+is_label target = true
+is_label listed = true
+is_label variable_use = false
+is_label number_use = false
 
 -- What tells two symbols apart: a name's bytes, a number's word.
 
@@ -161,12 +161,12 @@ count_if false n = n
 -- the cells: distinct variables and distinct number words
 abbrev pub cells : Words → List Use → ℕ
 cells w [] = 0
-cells w (u ∷ us) = count_if (not (is_label_lem u.role) && not (known w (key w u) us)) (cells w us)
+cells w (u ∷ us) = count_if (not (is_label u.role) && not (known w (key w u) us)) (cells w us)
 
 -- the distinct labels
 abbrev pub labels : Words → List Use → ℕ
 labels w [] = 0
-labels w (u ∷ us) = count_if (is_label_lem u.role && not (known w (key w u) us)) (labels w us)
+labels w (u ∷ us) = count_if (is_label u.role && not (known w (key w u) us)) (labels w us)
 
 -- Counts over the tokens past, newest first.
 

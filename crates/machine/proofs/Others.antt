@@ -6,7 +6,7 @@ use Rattle.host.specs.Meaning.{first, fits}
 use Rattle.host.specs.declared.mark.Mark.{Mark}
 use Rattle.host.specs.declared.mark.Mark.TheVariants.{Number, LineEnd}
 use Rattle.runs.specs.Events.{World}
-use Rattle.runs.specs.Machine.{State, inside, fetch, take_line, make_mark, carry_out_lem, move, step, run}
+use Rattle.runs.specs.Machine.{State, inside, fetch, take_line, make_mark, carry_out, move, step, run}
 use Rattle.runs.specs.declared.instruction.Instruction.{Instruction}
 use Rattle.runs.specs.declared.instruction.Instruction.TheVariants.{Bru, Brz, Brn, Brp, Ada, Sub, Mul, Div, Lda, Sta, Read, Convert, Newline, Stop}
 use Rattle.runs.specs.declared.status.Status.{Status}
@@ -22,7 +22,7 @@ module _ (W : World) (size used : ℕ) where
   mark_keeps true g k m = refl
   mark_keeps false g k m = refl
 
-  carry_keeps : (i : Instruction) (m : State) → inside size used i ≡ true → drop used (carry_out_lem W i m).cells ≡ drop used m.cells
+  carry_keeps : (i : Instruction) (m : State) → inside size used i ≡ true → drop used (carry_out W i m).cells ≡ drop used m.cells
   carry_keeps (Bru a) m e = refl
   carry_keeps (Brz a) m e = refl
   carry_keeps (Brn a) m e = refl

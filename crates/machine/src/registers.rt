@@ -3,7 +3,7 @@ ghost use Rattle.std.specs.Prelude.{◌≡◌, ◌<◌, ◌≤◌, min, true, Li
 ghost use Rattle.host.specs.Meaning.{Meaning};
 ghost use Rattle.arithmetic.specs.Words.{sum as sum_of, difference as difference_of, product as product_of, quotient as quotient_of};
 ghost use Rattle.runs.specs.Events.{world};
-ghost use Rattle.runs.specs.Machine.{fetch as fetched, inside, held as holds, load, carry_out_lem, step as stepped, counted, run as ran, count};
+ghost use Rattle.runs.specs.Machine.{fetch as fetched, inside, held as holds, load, carry_out, step as stepped, counted, run as ran, count};
 ghost use Rattle.runs.specs.declared.status.Status.TheVariants.{Running};
 ghost use Rattle.machine.specs.States.{whole};
 
@@ -110,7 +110,7 @@ impl Registers {
         host: &mut H,
     )
         requires { (self.old.address < 4096) × (inside 4096 (length cells.old) instruction ≡ true) }
-        ensures state { whole self.new cells.new (H.Host.meaning host.new) ≡ carry_out_lem (world N.Arithmetic.words H.Host.weight) instruction (whole self.old cells.old (H.Host.meaning host.old)) }
+        ensures state { whole self.new cells.new (H.Host.meaning host.new) ≡ carry_out (world N.Arithmetic.words H.Host.weight) instruction (whole self.old cells.old (H.Host.meaning host.old)) }
         ensures kept { H.Host.keeps host.old host.new }
     {
         match instruction {

@@ -4,7 +4,7 @@ use Rattle.fault.specs.declared.Fault.{Fault}
 use Rattle.arithmetic.specs.Words.{Words}
 use Rattle.token.specs.Lexis.{digit}
 use Rattle.token.specs.Numbers.{every}
-use Rattle.limits.specs.Uses.{Role, number_use, at_head, is_label_lem, key}
+use Rattle.limits.specs.Uses.{Role, number_use, at_head, is_label, key}
 use Rattle.limits.specs.Symbols.{first_cell, cells_before}
 use Rattle.symbols.specs.declared.table.Table.{Table}
 use Rattle.symbols.specs.Mentions.{Mention, uses_of, index, Sound}
@@ -12,7 +12,7 @@ use Rattle.symbols.specs.Table.{Holds, Taken, Decides, NameTold, DigitsTold, men
 use Rattle.reader.specs.Telling.{Noted, CellRead, Short}
 
 -- the cell at the index of a use that is taken
-pub cell_noted : (w : Words) (b : Table) (seen : List Mention) (m : Mention) (i v : ℕ) → Taken w b seen m i → is_label_lem m.used.role ≡ false → CellRead b i v →
+pub cell_noted : (w : Words) (b : Table) (seen : List Mention) (m : Mention) (i v : ℕ) → Taken w b seen m i → is_label m.used.role ≡ false → CellRead b i v →
     Noted w b seen m (Ok v)
 cell_noted w b seen m i v t l h =
     let u = m.used in

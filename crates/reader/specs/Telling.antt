@@ -7,7 +7,7 @@ use Rattle.token.specs.Lexis.{digit}
 use Rattle.token.specs.Numbers.{every}
 use Rattle.token.specs.Tokens.{Token, name, number, keyword, sign, other}
 use Rattle.arithmetic.specs.Words.{Words}
-use Rattle.limits.specs.Uses.{Role, number_use, Use, In, is_label_lem, key}
+use Rattle.limits.specs.Uses.{Role, number_use, Use, In, is_label, key}
 use Rattle.limits.specs.Symbols.{first_cell, cells_before}
 use Rattle.symbols.specs.declared.table.Table.{Table}
 use Rattle.symbols.specs.Mentions.{Mention, uses_of, index, Sound, use_refusal}
@@ -22,7 +22,7 @@ Noted w b seen m (Err f) = (use_refusal w (uses_of seen) m.used ≡ maybe.some (
 -- the cell of a variable or a number, at the index of its symbol
 abbrev pub CellRead : Table → ℕ → ℕ → Type 0
 CellRead t i r =
-    (w : Words) (seen : List Mention) (u : Use) → Holds w t seen → In u (uses_of seen) → is_label_lem u.role ≡ false → i ≡ index w (key w u) (uses_of seen) →
+    (w : Words) (seen : List Mention) (u : Use) → Holds w t seen → In u (uses_of seen) → is_label u.role ≡ false → i ≡ index w (key w u) (uses_of seen) →
     r ≡ first_cell + cells_before w (key w u) (uses_of seen)
 
 -- places and lengths have 16 bits

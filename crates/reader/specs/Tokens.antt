@@ -5,7 +5,7 @@ use Rattle.fault.specs.declared.Refusal.{Refusal}
 use Rattle.token.specs.Tokens.{Token, name, number, keyword, sign, other}
 use Rattle.grammar.specs.Tests.{is}
 use Rattle.reading.specs.declared.counts.Counts.{Counts}
-use Rattle.reading.specs.Counting.{counted, form_refusal_lem}
+use Rattle.reading.specs.Counting.{counted, form_refusal}
 
 -- a name that is a label in a list after OF; no other token is one
 abbrev pub listed_name : Bool → Token → Bool
@@ -22,12 +22,12 @@ counted_by (Some t) c = counted t c
 
 abbrev pub form_refusal_by : Counts → ℕ → Bool → Option Token → Option Refusal
 form_refusal_by c ifs listed None = None
-form_refusal_by c ifs listed (Some t) = form_refusal_lem c ifs (listed_name listed t) t
+form_refusal_by c ifs listed (Some t) = form_refusal c ifs (listed_name listed t) t
 
-abbrev pub is_of_lem : Option Token → Bool
-is_of_lem None = false
-is_of_lem (Some t) = is (keyword Of) t
+abbrev pub is_of : Option Token → Bool
+is_of None = false
+is_of (Some t) = is (keyword Of) t
 
-abbrev pub is_end_lem : Option Token → Bool
-is_end_lem None = true
-is_end_lem (Some t) = false
+abbrev pub is_end : Option Token → Bool
+is_end None = true
+is_end (Some t) = false

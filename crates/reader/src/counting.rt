@@ -2,8 +2,8 @@
 ghost use Rattle.std.specs.Prelude.{◌≡◌, ℕ, false, List};
 ghost use Rattle.token.specs.Tokens.{name as named, keyword as reserved, sign as signed};
 ghost use Rattle.token.specs.Views.{meant};
-ghost use Rattle.reading.specs.Counting.{counts, counted, form_refusal_lem};
-ghost use Rattle.reader.specs.Tokens.{counted_by, form_refusal_by, is_of_lem, is_end_lem};
+ghost use Rattle.reading.specs.Counting.{counts, counted, form_refusal};
+ghost use Rattle.reader.specs.Tokens.{counted_by, form_refusal_by, is_of, is_end};
 
 use fault::Refusal;
 use reading::counts::Counts;
@@ -82,7 +82,7 @@ pub fn after_token(counts: Counts, token: Token<'_>) -> Counts
 
 // The refusal of 9 or 10 at a sign.
 fn sign_refusal(counts: Counts, sign: Sign) -> Option<Refusal>
-    ensures { (ifs : ℕ) → result ≡ form_refusal_lem counts ifs false (signed sign) }
+    ensures { (ifs : ℕ) → result ≡ form_refusal counts ifs false (signed sign) }
 {
     match sign {
         Sign::Plus | Sign::Minus | Sign::Times | Sign::Over => {
@@ -105,7 +105,7 @@ fn sign_refusal(counts: Counts, sign: Sign) -> Option<Refusal>
 
 // The refusal of 10 at a keyword, inside so many IFs.
 fn keyword_refusal(ifs: usize, keyword: Keyword) -> Option<Refusal>
-    ensures { (counts : Counts) → result ≡ form_refusal_lem counts ifs false (reserved keyword) }
+    ensures { (counts : Counts) → result ≡ form_refusal counts ifs false (reserved keyword) }
 {
     match keyword {
         Keyword::If => {
@@ -121,7 +121,7 @@ fn keyword_refusal(ifs: usize, keyword: Keyword) -> Option<Refusal>
 
 // The refusal of 11 at a name.
 fn name_refusal(counts: Counts, listed: bool) -> Option<Refusal>
-    ensures { (ifs : ℕ) (n : List ℕ) → result ≡ form_refusal_lem counts ifs listed (named n) }
+    ensures { (ifs : ℕ) (n : List ℕ) → result ≡ form_refusal counts ifs listed (named n) }
 {
     if listed && counts.names >= LABELS {
         Some(Refusal::TooManyTargets)
@@ -144,7 +144,7 @@ pub fn form_refusal(counts: Counts, ifs: usize, listed: bool, token: Token<'_>) 
 
 // Whether a token is OF.
 pub fn is_of(token: Token<'_>) -> bool
-    ensures { result ≡ is_of_lem (meant token.entry) }
+    ensures { result ≡ is_of (meant token.entry) }
 {
     match token {
         Token::Keyword(keyword) => match keyword {
@@ -157,7 +157,7 @@ pub fn is_of(token: Token<'_>) -> bool
 
 // Whether it is the end of the text.
 pub fn is_end(token: Token<'_>) -> bool
-    ensures { result ≡ is_end_lem (meant token.entry) }
+    ensures { result ≡ is_end (meant token.entry) }
 {
     match token {
         Token::End => true,

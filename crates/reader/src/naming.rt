@@ -5,7 +5,7 @@ ghost use Rattle.symbols.specs.Entries.{meant as use_meant};
 ghost use Rattle.symbols.specs.Table.{Keeps};
 ghost use Rattle.reader.specs.Telling.{CellRead, NameNoted, NumberNoted, TokenNoted};
 ghost use Rattle.reading.specs.Reads.{role_at};
-ghost use Rattle.limits.specs.Uses.{is_listed_lem, is_label_lem as labels};
+ghost use Rattle.limits.specs.Uses.{is_listed, is_label as labels};
 
 use arithmetic::Arithmetic;
 use emission::state::State;
@@ -34,7 +34,7 @@ pub fn role(state: State, of_next: bool) -> Role
 
 // Whether it is a label in a list after OF.
 pub fn is_listed(role: Role) -> bool
-    ensures { result ≡ is_listed_lem (use_meant role) }
+    ensures { result ≡ is_listed (use_meant role) }
 {
     match role {
         Role::Listed => true,

@@ -17,7 +17,7 @@ use Rattle.runs.specs.Placed.{variables, literals, wholes, collected}
 use Rattle.runs.proofs.Basics.{all_among}
 use Rattle.runs.proofs.Sound.{Bound, codes_size, codes_bound}
 use Rattle.runs.proofs.Stands.{code_is_sound_lem}
-use Rattle.limits.specs.Uses.{Role, definition, target, listed, variable_use, number_use, Use, made, In, uses_before, uses, is_definition, is_label_lem, Key, label_key, key_by, key, known}
+use Rattle.limits.specs.Uses.{Role, definition, target, listed, variable_use, number_use, Use, made, In, uses_before, uses, is_definition, is_label, Key, label_key, key_by, key, known}
 use Rattle.limits.specs.Rules.{code_limit, Clear, Met, tokens_of}
 use Rattle.limits.specs.Refusals.{among}
 use Rattle.limits.specs.Symbols.{first_cell, cells_before}
@@ -38,7 +38,7 @@ use Rattle.symbols.specs.Mentions.{Mention, uses_of, address_in, index, mentions
 use Rattle.symbols.specs.Table.{Holds}
 use Rattle.symbols.proofs.Reading.{describes}
 use Rattle.symbols.proofs.Whole.{same_uses, few, has_index}
-use Rattle.assembly.specs.Words.{packed, instruction_word_lem, jump_operation, jump_zero_operation}
+use Rattle.assembly.specs.Words.{packed, instruction_word, jump_operation, jump_zero_operation}
 use Rattle.assembly.specs.Drawn.{coded}
 use Rattle.reading.specs.References.{numbering, Matches, Labelled}
 use Rattle.reading.specs.Settling.{address_at, settled_word}
@@ -69,7 +69,7 @@ left_alone ss o a l h =
 abbrev pub Anywhere : ℕ → Type 0
 Anywhere c = Unit {0}
 
-fixed_word : (ss : List Symbol) (u : ℕ) → u ≤ 512 → (i : Instruction) → Bound 4096 u Anywhere i → settled_word ss (instruction_word_lem i) ≡ encode i
+fixed_word : (ss : List Symbol) (u : ℕ) → u ≤ 512 → (i : Instruction) → Bound 4096 u Anywhere i → settled_word ss (instruction_word i) ≡ encode i
 fixed_word ss u l (Bru a) h = left_alone ss 0 a (omega arith) h
 fixed_word ss u l (Brz a) h = left_alone ss 1 a (omega arith) h
 fixed_word ss u l (Brn a) h = left_alone ss 2 a (omega arith) h
@@ -130,7 +130,7 @@ bounded w ts p clear parses short =
 -- The labels of the uses.
 
 -- a use with a label's key is one of the label
-pub by_label : (w : Words) (r : Role) (s l : List ℕ) → key_by w r s ≡ label_key l → (is_label_lem r ≡ true) × (s ≡ l)
+pub by_label : (w : Words) (r : Role) (s l : List ℕ) → key_by w r s ≡ label_key l → (is_label r ≡ true) × (s ≡ l)
 by_label w definition s l e = (refl, cc)
 by_label w target s l e = (refl, cc)
 by_label w listed s l e = (refl, cc)
@@ -138,7 +138,7 @@ by_label w variable_use s l e = let z : ◌≡◌ {A = ℕ} 0 1 = cc in absurd (
 by_label w number_use s l e = let z : ◌≡◌ {A = ℕ} 0 1 = cc in absurd (omega arith)
 
 -- a label that is mentioned is among the definitions
-pub met_defined : (ts : List Token) → Met ts → (r : Role) (l : Name) → In (made r l) (uses ts) → is_label_lem r ≡ true → among is_definition l (uses ts) ≡ true
+pub met_defined : (ts : List Token) → Met ts → (r : Role) (l : Name) → In (made r l) (uses ts) → is_label r ≡ true → among is_definition l (uses ts) ≡ true
 met_defined ts met r l i b = go (way (among is_definition l (uses ts)))
   where
     go : Way (among is_definition l (uses ts)) → among is_definition l (uses ts) ≡ true
@@ -174,7 +174,7 @@ module _ (w : Words) (ts : List Placed) (address : List Token → ℕ) (t : Tabl
       let c = whole.same_size in
       omega arith
 
-  numbered_by : (us : List Use) → uses_of seen ≡ us → ((r : Role) (l : Name) → In (made r l) us → is_label_lem r ≡ true → among is_definition l us ≡ true) →
+  numbered_by : (us : List Use) → uses_of seen ≡ us → ((r : Role) (l : Name) → In (made r l) us → is_label r ≡ true → among is_definition l us ≡ true) →
       (l : Name) (u : Use) → In u us → key w u ≡ label_key l → Numbered t.symbols.now (λ x. index w (label_key x) us) (label_address d) l
   numbered_by us e defined l u i k =
       let b = by_label w u.role u.spelling l k in

@@ -5,7 +5,7 @@ use mathlib.Core.Option.{Option, none, some}
 use Rattle.std.proofs.lemmas.Bool.{or_right}
 use Rattle.token.specs.Tokens.{Token}
 use Rattle.arithmetic.specs.Words.{Words}
-use Rattle.limits.specs.Uses.{Use, use_of, with_use, uses_before, uses, is_label_lem, Key, same_key, key, known}
+use Rattle.limits.specs.Uses.{Use, use_of, with_use, uses_before, uses, is_label, Key, same_key, key, known}
 use Rattle.limits.specs.Symbols.{first_cell, cells_before}
 use Rattle.symbols.specs.Mentions.{index}
 use Rattle.symbols.proofs.Whole.{index_stays, cell_stays}
@@ -45,4 +45,4 @@ after_all w k past rest h = rw (turned past rest) (all_more w k rest past h)
 pub stays : Stays
 stays w past rest u h =
     let a = after_all w (key w u) past rest h in
-    (λ i. cond (is_label_lem u.role) (a.same_index i) (first_cell + a.same_cell i))
+    (λ i. cond (is_label u.role) (a.same_index i) (first_cell + a.same_cell i))

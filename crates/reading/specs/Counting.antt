@@ -22,8 +22,8 @@ counted t c =
     (cond (is_reserved t) 0 (cond (is_name t) (plus c.names 1) c.names))
 
 -- the refusal of 9 to 11 at a token, where `listed` says that it is a label in a list after OF, and so many IFs are open
-abbrev pub form_refusal_lem : Counts → ℕ → Bool → Token → Option Refusal
-form_refusal_lem c ifs listed t =
+abbrev pub form_refusal : Counts → ℕ → Bool → Token → Option Refusal
+form_refusal c ifs listed t =
     cond (is_operator t && nat_le operator_limit c.operators) (Some TooManyOperators)
     (cond ((is (sign Open) t && nat_le depth_limit c.depth) || (is (keyword If) t && nat_le depth_limit ifs)) (Some TooDeep)
     (cond (listed && nat_le list_limit c.names) (Some TooManyTargets) None))

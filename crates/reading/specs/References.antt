@@ -3,7 +3,7 @@ use Rattle.std.specs.Prelude.{◌≡◌, ℕ, ◌+◌, min, true, false, cond, L
 use Rattle.token.specs.Tokens.{Token}
 use Rattle.trees.specs.Trees.{Name}
 use Rattle.arithmetic.specs.Words.{Words}
-use Rattle.limits.specs.Uses.{Use, uses, is_definition, is_label_lem, label_key, key, known}
+use Rattle.limits.specs.Uses.{Use, uses, is_definition, is_label, label_key, key, known}
 use Rattle.limits.specs.Rules.{code_limit}
 use Rattle.limits.specs.Symbols.{first_cell, cells_before}
 use Rattle.emission.specs.Draft.{Word, fixed, jump, jump_zero, Definition}
@@ -11,7 +11,7 @@ use Rattle.symbols.specs.Mentions.{Mention, index}
 
 -- after the uses us: a label by its symbol's index, a variable or a number by its cell
 abbrev pub reference : Words → List Use → Use → ℕ
-reference w us u = cond (is_label_lem u.role) (index w (key w u) us) (first_cell + cells_before w (key w u) us)
+reference w us u = cond (is_label u.role) (index w (key w u) us) (first_cell + cells_before w (key w u) us)
 
 -- the index of a label's symbol
 abbrev pub numbering : Words → List Token → Name → ℕ

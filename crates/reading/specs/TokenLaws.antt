@@ -5,7 +5,7 @@ use Rattle.fault.specs.declared.Refusal.{Refusal}
 use Rattle.fault.specs.Refusals.{numbered}
 use Rattle.token.specs.Tokens.{Token, name, number, keyword, sign, other, Placed}
 use Rattle.arithmetic.specs.Words.{Words}
-use Rattle.limits.specs.Uses.{Role, number_use, Use, made, use_of, before_of, is_listed_lem}
+use Rattle.limits.specs.Uses.{Role, number_use, Use, made, use_of, before_of, is_listed}
 use Rattle.limits.specs.Rules.{code_limit, tokens_of, Refused}
 use Rattle.emission.specs.Table.{Entry}
 use Rattle.emission.specs.Classes.{class}
@@ -17,7 +17,7 @@ use Rattle.reading.specs.declared.counts.Counts.{Counts}
 use Rattle.reading.specs.declared.returns.Return.{Return as Coded}
 use Rattle.reading.specs.References.{reference}
 use Rattle.reading.specs.Steps.{Found, leaving, pushed_all}
-use Rattle.reading.specs.Counting.{counted, form_refusal_lem}
+use Rattle.reading.specs.Counting.{counted, form_refusal}
 use Rattle.reading.specs.Reads.{role_at, current, room, return_room, label_at, mentions, refused_first, Reads}
 
 -- a refusal at a place
@@ -35,7 +35,7 @@ use_by r (other b) = none
 -- whether the token is a label in a list after OF
 abbrev pub listed_by : Option Use → Bool
 listed_by none = false
-listed_by (some u) = is_listed_lem u.role
+listed_by (some u) = is_listed u.role
 
 -- what a token is told to the table as, and what it refers to: nothing if it is no name and no number
 abbrev pub Told : Words → List ℕ → List Placed → Placed → List Placed → Option Use → Table → Table → ℕ → Type 0
@@ -71,10 +71,10 @@ module _ (w : Words) (text : List ℕ) (past : List Placed) (p : Placed) (ps : L
         refused_first w text ≡ some (record { number = n; place = p.offset })
     -- or none of these, and one of 9 to 11
     pub no_form : (a : ℕ) (e : Entry) (r : Refusal) → at_token.taken ≡ some (a, e) → ((u : Use) → use_here ≡ some u → use_refusal w (uses_of (mentions w text past (p ∷ ps))) u ≡ none) →
-        form_refusal_lem c ifs_here (listed_by use_here) p.token ≡ Some r → refused_first w text ≡ refused_at r p.offset
+        form_refusal c ifs_here (listed_by use_here) p.token ≡ Some r → refused_first w text ≡ refused_at r p.offset
     -- or none at all, and the reader goes on
     pub goes_on : (a : ℕ) (e : Entry) (b : Table) (r : ℕ) → at_token.taken ≡ some (a, e) → ((u : Use) → use_here ≡ some u → use_refusal w (uses_of (mentions w text past (p ∷ ps))) u ≡ none) →
-        Told w text past p ps use_here t b r → b.text.now ≡ text → form_refusal_lem c ifs_here (listed_by use_here) p.token ≡ None →
+        Told w text past p ps use_here t b r → b.text.now ≡ text → form_refusal c ifs_here (listed_by use_here) p.token ≡ None →
         Reads w text (p ∷ past) ps (acted room e.action a r at_token.plan)
         (pushed_all return_room (acted room e.action a r at_token.plan).made.count e.states at_token.below) (counted p.token c) b
 

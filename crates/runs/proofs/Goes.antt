@@ -6,7 +6,7 @@ use Rattle.std.proofs.lemmas.Bool.{leb-true}
 use Rattle.host.specs.Meaning.{Meaning, meaning, rest, taken, fits, marked}
 use Rattle.runs.specs.Events.{World, Mark, Running, status_of, line, mark, close, Observation, observe, Tick, quiet, does, total, remaining}
 use Rattle.runs.specs.Source.{quiets}
-use Rattle.runs.specs.Machine.{Instruction, State, fetch, carry_out_lem, step, run}
+use Rattle.runs.specs.Machine.{Instruction, State, fetch, carry_out, step, run}
 use Rattle.runs.specs.Statements.{shown, Shows}
 
 -- what ticks add to an observation
@@ -88,11 +88,11 @@ module _ (W : World) where
     pub data Goes : State → List Tick → State → Type 0 where
       done : {m : State} → Goes m [] m
       tick : {m n : State} {t : Tick} {ts : List Tick} (i : Instruction) → m.status ≡ Running → fetch code used m.address ≡ Some i →
-          Effect t m (carry_out_lem W i m) → Goes (carry_out_lem W i m) ts n → Goes m (t ∷ ts) n
+          Effect t m (carry_out W i m) → Goes (carry_out W i m) ts n → Goes m (t ∷ ts) n
 
     -- a step whose end is known by an equation
     pub tick_to : {m o n : State} {t : Tick} {ts : List Tick} (i : Instruction) → m.status ≡ Running → fetch code used m.address ≡ Some i →
-        carry_out_lem W i m ≡ o → Effect t m o → Goes o ts n → Goes m (t ∷ ts) n
+        carry_out W i m ≡ o → Effect t m o → Goes o ts n → Goes m (t ∷ ts) n
     tick_to {m} {n = n} {t = t} {ts = ts} i s f e a g =
         tick i s f (subst (λ (x : State). Effect t m x) (sym e) a) (subst (λ (x : State). Goes x ts n) (sym e) g)
 
@@ -104,7 +104,7 @@ module _ (W : World) where
     pub quietly : {m n o : State} (i j : ℕ) → Goes m (quiets i) n → Goes n (quiets j) o → Goes m (quiets (i + j)) o
     quietly {m} {n} {o} i j g h = rw (← (replicate-append-replicate i j quiet)) (join g h)
 
-    one_step : (m : State) (i : Instruction) → m.status ≡ Running → fetch code used m.address ≡ Some i → step W code used m ≡ carry_out_lem W i m
+    one_step : (m : State) (i : Instruction) → m.status ≡ Running → fetch code used m.address ≡ Some i → step W code used m ≡ carry_out W i m
     one_step m i s f = rw (s, f)
 
     -- what is seen of n steps, when the machine goes through ts and is then right about the rest
@@ -115,4 +115,4 @@ module _ (W : World) where
     notes h o (tick i s g e r) f more zero k = f
     notes h o (tick {m = m} {t = t} {ts = ts} i s g e r) f more (suc N) k =
         subst (λ (x : State). Follows h (all_noted (noted t o) (take N (ts ++ more))) (run W code used N x)) (sym (one_step m i s g))
-        (notes h (noted t o) r (follows_tick t h o m (carry_out_lem W i m) e f) more N (λ M q l. k M q (omega arith)))
+        (notes h (noted t o) r (follows_tick t h o m (carry_out W i m) e f) more N (λ M q l. k M q (omega arith)))

@@ -9,7 +9,7 @@ use Rattle.runs.specs.Names.{same, Store, put}
 use Rattle.runs.specs.Events.{World, Mark, number, line_end, Running}
 use Rattle.runs.specs.Source.{decimal, apply, value, operators, cost, compared, holds, command, end_of_then, Continuation, find, quiets, Stage, at, ended, Step, making, storing, dropping, choosing, picked, pick_cost, leading, perform}
 use Rattle.runs.specs.Source.{step as source_step}
-use Rattle.runs.specs.Machine.{Instruction, Bru, Brz, Lda, Sta, Sub, Read, Convert, Newline, State, state, held, load, take_line, make_mark, carry_out_lem, step}
+use Rattle.runs.specs.Machine.{Instruction, Bru, Brz, Lda, Sta, Sub, Read, Convert, Newline, State, state, held, load, take_line, make_mark, carry_out, step}
 use Rattle.runs.specs.Code.{Layout, temp, one, operating, cell_of, branching}
 use Rattle.runs.proofs.Basics.{same_self, same_eq, is_number, found, spent, found_is, spent_is, Fixed, fit_fixed, value_fixed, put_fixed, less_more, test_is}
 use Rattle.runs.proofs.Goes.{Goes, done, tick, tick_to, join, quietly}
@@ -106,14 +106,14 @@ module _ (W : World) (law : Lawful W.words) (k : Layout) (V : Name → Type 0) (
   H v s = Holds w law k V L apart v s
 
   -- an operator's instruction does what the operator says
-  operates : (o : Operator) (c : ℕ) (m : State) → carry_out_lem W (operating o c) m ≡ load (apply w o m.accumulator (held w m.cells c)) m
+  operates : (o : Operator) (c : ℕ) (m : State) → carry_out W (operating o c) m ≡ load (apply w o m.accumulator (held w m.cells c)) m
   operates plus c m = refl
   operates minus c m = refl
   operates times c m = refl
   operates over c m = refl
 
   -- a relation's jump is taken where it holds
-  turns : (r : Relation) (a b : ℕ) {z : ℤ} {s : List ℤ} {h : Meaning} {t : Bool} → holds r z ≡ t → carry_out_lem W (branching r b) (at_work a z s h) ≡ at_work (cond t b (suc a)) z s h
+  turns : (r : Relation) (a b : ℕ) {z : ℤ} {s : List ℤ} {h : Meaning} {t : Bool} → holds r z ≡ t → carry_out W (branching r b) (at_work a z s h) ≡ at_work (cond t b (suc a)) z s h
   turns greater a b {z} {s} {h} e = ap (λ (t : Bool). at_work (cond t b (suc a)) z s h) e
   turns equal a b {z} {s} {h} e = ap (λ (t : Bool). at_work (cond t b (suc a)) z s h) e
   turns lesser a b {z} {s} {h} e = ap (λ (t : Bool). at_work (cond t b (suc a)) z s h) e
@@ -187,7 +187,7 @@ module _ (W : World) (law : Lawful W.words) (k : Layout) (V : Name → Type 0) (
 
   -- a mark, whatever it is, after some quiet units
   marks : {a : ℕ} {r : Continuation} {v : Store} {s : List ℤ} {x : ℤ} {h : Meaning} {m : State} (i : Instruction) (n : Mark) (b : Bool) (j : ℕ) →
-      ((m : State) → carry_out_lem W i (at_work a x s h) ≡ make_mark (fits (W.weight n) h) (W.weight n) n (at_work a x s h)) →
+      ((m : State) → carry_out W i (at_work a x s h) ≡ make_mark (fits (W.weight n) h) (W.weight n) n (at_work a x s h)) →
       fits (W.weight n) h ≡ b → Goes W code k.used m (quiets j) (at_work a x s h) → H v s → RestAt code k to V L (suc a) r → Fetch code k to V L a i →
       Does m (making b n j r v (marked (W.weight n) n h))
   marks {a} {s = s} {x} {h} {m} i n true j d e g q r f = record {

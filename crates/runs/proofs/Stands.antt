@@ -10,7 +10,7 @@ use Rattle.trees.specs.Trees.{Name, Command, Program, commands}
 use Rattle.arithmetic.specs.Words.{is_zero}
 use Rattle.host.specs.Meaning.{Meaning, first, fits}
 use Rattle.runs.specs.Events.{World, Mark, number, line_end, Status, Running, Stopped, NoLine, NoPaper, Corrupt}
-use Rattle.runs.specs.Machine.{Instruction, Bru, Brz, Brn, Brp, Ada, Sub, Mul, Div, Lda, Sta, Read, Convert, Newline, Stop, encode, fetch, State, take_line, make_mark, carry_out_lem, move, step, run, loaded}
+use Rattle.runs.specs.Machine.{Instruction, Bru, Brz, Brn, Brp, Ada, Sub, Mul, Div, Lda, Sta, Read, Convert, Newline, Stop, encode, fetch, State, take_line, make_mark, carry_out, move, step, run, loaded}
 use Rattle.runs.specs.Code.{Layout, temp, one, first_temporary, first_free, size, sizes, program_size, address_of, instructions, code_of}
 use Rattle.runs.specs.Placed.{variables, literals, wholes, picks, collected, Variable, Literal, Placed, Ready, Written, to_temp, to_temporary, to_variable}
 use Rattle.runs.specs.Statements.{after, CodeIsSound, OtherCellsStay}
@@ -106,7 +106,7 @@ module _ (W : World) (u E : ℕ) (S : ℕ → Type 0) where
   safe_mark true g k m l f = record { fine = f; within = l }
   safe_mark false g k m l f = record { fine = tt; within = omega arith }
 
-  safe_do : (i : Instruction) (m : State) → Bound (suc E) u S i → (m.address < E) ⊎ (i ≡ Stop) → m.address ≤ E → Fine m.status → Safe (carry_out_lem W i m)
+  safe_do : (i : Instruction) (m : State) → Bound (suc E) u S i → (m.address < E) ⊎ (i ≡ Stop) → m.address ≤ E → Fine m.status → Safe (carry_out W i m)
   safe_do (Bru a) m b o l f = record { fine = f; within = omega arith }
   safe_do (Brz a) m b o l f = record { fine = f; within = jumped (is_zero m.accumulator) a (suc m.address) (omega arith) (before (Brz a) m.address refl o) }
   safe_do (Brn a) m b o l f = record { fine = f; within = jumped (lt_z m.accumulator (pos 0)) a (suc m.address) (omega arith) (before (Brn a) m.address refl o) }
@@ -217,7 +217,7 @@ module _ (W : World) (n u : ℕ) (S : ℕ → Type 0) (s : List ℤ) where
   spared_mark true g x m k = k
   spared_mark false g x m k = k
 
-  spared_do : (i : Instruction) (m : State) → Bound n u S i → Spared S s m.cells → Spared S s (carry_out_lem W i m).cells
+  spared_do : (i : Instruction) (m : State) → Bound n u S i → Spared S s m.cells → Spared S s (carry_out W i m).cells
   spared_do (Bru a) m b k = k
   spared_do (Brz a) m b k = k
   spared_do (Brn a) m b k = k

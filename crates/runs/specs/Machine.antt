@@ -135,25 +135,25 @@ make_mark false g k m = shut NoPaper m
 abbrev pub put_mark : World → Mark → State → State
 put_mark W k m = make_mark (fits (W.weight k) m.host) (W.weight k) k m
 
-abbrev pub carry_out_lem : World → Instruction → State → State
-carry_out_lem W (Bru a) m = jump a m
-carry_out_lem W (Brz a) m = jump (cond (is_zero m.accumulator) a (suc m.address)) m
-carry_out_lem W (Brn a) m = jump (cond (int_lt m.accumulator (pos 0)) a (suc m.address)) m
-carry_out_lem W (Brp a) m = jump (cond (int_lt (pos 0) m.accumulator) a (suc m.address)) m
-carry_out_lem W (Ada a) m = load (sum W.words m.accumulator (held W.words m.cells a)) m
-carry_out_lem W (Sub a) m = load (difference W.words m.accumulator (held W.words m.cells a)) m
-carry_out_lem W (Mul a) m = load (product W.words m.accumulator (held W.words m.cells a)) m
-carry_out_lem W (Div a) m = load (quotient W.words m.accumulator (held W.words m.cells a)) m
-carry_out_lem W (Lda a) m = load (held W.words m.cells a) m
-carry_out_lem W (Sta a) m = store a m
-carry_out_lem W Read m = take_line W.words (first m.host.lines) m
-carry_out_lem W Convert m = put_mark W (number m.accumulator) m
-carry_out_lem W Newline m = put_mark W line_end m
-carry_out_lem W Stop m = shut Stopped m
+abbrev pub carry_out : World → Instruction → State → State
+carry_out W (Bru a) m = jump a m
+carry_out W (Brz a) m = jump (cond (is_zero m.accumulator) a (suc m.address)) m
+carry_out W (Brn a) m = jump (cond (int_lt m.accumulator (pos 0)) a (suc m.address)) m
+carry_out W (Brp a) m = jump (cond (int_lt (pos 0) m.accumulator) a (suc m.address)) m
+carry_out W (Ada a) m = load (sum W.words m.accumulator (held W.words m.cells a)) m
+carry_out W (Sub a) m = load (difference W.words m.accumulator (held W.words m.cells a)) m
+carry_out W (Mul a) m = load (product W.words m.accumulator (held W.words m.cells a)) m
+carry_out W (Div a) m = load (quotient W.words m.accumulator (held W.words m.cells a)) m
+carry_out W (Lda a) m = load (held W.words m.cells a) m
+carry_out W (Sta a) m = store a m
+carry_out W Read m = take_line W.words (first m.host.lines) m
+carry_out W Convert m = put_mark W (number m.accumulator) m
+carry_out W Newline m = put_mark W line_end m
+carry_out W Stop m = shut Stopped m
 
 -- while the run is open the instruction that was fetched is carried out, or, where there is none, the run closes as corrupt at its address
 abbrev pub move : World → Status → Option Instruction → State → State
-move W Running (Some i) m = carry_out_lem W i m
+move W Running (Some i) m = carry_out W i m
 move W Running None m = shut (Corrupt m.address) m
 move W Stopped o m = m
 move W NoLine o m = m

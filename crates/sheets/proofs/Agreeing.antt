@@ -54,7 +54,7 @@ module _ (W : World) (law : Lawful W.words) (k : Layout) (p : Program) (pl : Pla
 accepted : (W : World) → Lawful W.words → (text : List ℕ) (p : Program) → Accepts W.words text p → (h : Meaning) → RunsAgree W p (image_of W.words text p) h
 accepted W law text p a h =
     let q : PlacedImage W.words text p = accepted_is_placed_lem W.words text p a in
-    runs_agree W law (layout W.words (plain_tokens text)) p q.placed (image_of W.words text p) refl q.cells_used_lem q.ready h
+    runs_agree W law (layout W.words (plain_tokens text)) p q.placed (image_of W.words text p) refl q.cells_used q.ready h
 
 pub sheet_runs_agree_lem : SheetRunsAgree
 sheet_runs_agree_lem = record {

@@ -8,7 +8,7 @@ use Rattle.trees.specs.Trees.{Name, Program, commands}
 use Rattle.arithmetic.specs.Words.{Words}
 use Rattle.limits.specs.Uses.{variable_use, number_use, made, In, uses}
 use Rattle.limits.specs.Rules.{Clear}
-use Rattle.limits.specs.Symbols.{variable_cell, literal_cell, cells_used_lem}
+use Rattle.limits.specs.Symbols.{variable_cell, literal_cell, cells_used}
 use Rattle.limits.proofs.Cells as cell
 use Rattle.limits.proofs.Fitting.{fits}
 use Rattle.limits.proofs.Naming.{in_tokens}
@@ -98,7 +98,7 @@ module _ (w : Words) (ts : List Token) (p : Program) (clear : Clear w ts) (parse
   }
 
   -- a cell in use is the same whatever follows
-  before : (others : List ℤ) (c : ℕ) → c < cells_used_lem w ts → get_or (first_cells w ts ++ others) c (pos 0) ≡ get_or (first_cells w ts) c (pos 0)
+  before : (others : List ℤ) (c : ℕ) → c < cells_used w ts → get_or (first_cells w ts ++ others) c (pos 0) ≡ get_or (first_cells w ts) c (pos 0)
   before others c h = get_or-append (first_cells w ts) others (pos 0) c (subst (λ (n : ℕ). c < n) (sym (value.length_cells w ts)) h)
 
   ready_before : (others : List ℤ) → Ready w (layout w ts) p (first_cells w ts ++ others)
@@ -122,12 +122,12 @@ accepted_is_placed_lem w text p a =
     let ts : List Token = plain_tokens text in
     let q : Placed (layout w ts) p = placed w ts p a.clear a.parses a.fits in
     let s : length (code_of (layout w ts) p) ≡ program_size p = code_is_sound_lem.size (layout w ts) p in
-    let c : length (first_cells w ts) ≡ cells_used_lem w ts = value.length_cells w ts in
+    let c : length (first_cells w ts) ≡ cells_used w ts = value.length_cells w ts in
     record {
       placed = q;
       ready = ready w ts p a.clear a.parses;
       ready_before = ready_before w ts p a.clear a.parses;
-      cells_used_lem = c;
+      cells_used = c;
       some_cells = omega (arith, c);
       few_cells = subst (λ (n : ℕ). n ≤ 512) (sym c) q.few;
       few_symbols = cell.few_symbols w (address_of p) (tokens text) a.clear;

@@ -7,7 +7,7 @@ use Rattle.token.specs.Reading.{spelled, Reads, the_end, a_blank, a_comment, a_t
 use Rattle.token.proofs.Readings.{tokens_exact}
 use Rattle.trees.specs.Trees.{Name, Program}
 use Rattle.arithmetic.specs.Words.{Words}
-use Rattle.limits.specs.Uses.{Role, definition, target, listed, variable_use, number_use, Use, made, In, at_head, in_tail, use_of, use_at, uses, is_label_lem, key_by}
+use Rattle.limits.specs.Uses.{Role, definition, target, listed, variable_use, number_use, Use, made, In, at_head, in_tail, use_of, use_at, uses, is_label, key_by}
 use Rattle.limits.specs.Rules.{past, Used, tokens_of, place}
 use Rattle.limits.specs.Symbols.{kind_of, Symbol, cell, FirstUse}
 use Rattle.limits.proofs.Cells as cells
@@ -103,7 +103,7 @@ module _ (w : Words) (text : List ℕ) (p : Program) where
   in_cells c h = subst (λ (n : ℕ). c < n) (sym (value.length_cells w (plain_tokens text))) h
 
   leads_by : (r : Role) (s : List ℕ) → In (made r s) (uses (plain_tokens text)) →
-      Leads w (layout w (plain_tokens text)) p (image_of w text p) s (cond (is_label_lem r) (address_of p s) (cell w (plain_tokens text) (key_by w r s))) (kind_of r)
+      Leads w (layout w (plain_tokens text)) p (image_of w text p) s (cond (is_label r) (address_of p s) (cell w (plain_tokens text) (key_by w r s))) (kind_of r)
   leads_by definition s i = (refl, in_code s)
   leads_by target s i = (refl, in_code s)
   leads_by listed s i = (refl, in_code s)
@@ -119,7 +119,7 @@ module _ (w : Words) (text : List ℕ) (p : Program) where
       let q : Spelled text (place 0 (drop f.index (tokens text))) f.spelling = used_spelled text f.index f.role f.spelling f.used in
       subst (SymbolStands w text p) (sym f.is_symbol) (record {
         within = q.within;
-        leads = subst (λ (bytes : List ℕ). Leads w (layout w (plain_tokens text)) p (image_of w text p) bytes (cond (is_label_lem f.role) (address_of p f.spelling) (cell w (plain_tokens text) (key_by w f.role f.spelling))) (kind_of f.role))
+        leads = subst (λ (bytes : List ℕ). Leads w (layout w (plain_tokens text)) p (image_of w text p) bytes (cond (is_label f.role) (address_of p f.spelling) (cell w (plain_tokens text) (key_by w f.role f.spelling))) (kind_of f.role))
             (sym q.same) (leads_by f.role f.spelling (used_in (plain_tokens text) f.index f.role f.spelling f.used));
       })
 

@@ -7,8 +7,8 @@ use Rattle.token.specs.Tokens.{Token}
 use Rattle.token.specs.Numbers.{word}
 use Rattle.trees.specs.Trees.{Name}
 use Rattle.arithmetic.specs.Words.{Words}
-use Rattle.limits.specs.Uses.{Role, definition, target, listed, variable_use, number_use, Use, made, In, uses, is_label_lem, Key, label_key, variable_key, number_key, same_key, key_by, key, known, count_if, cells}
-use Rattle.limits.specs.Symbols.{cells_before, cells_used_lem, variable_cell, literal_cell}
+use Rattle.limits.specs.Uses.{Role, definition, target, listed, variable_use, number_use, Use, made, In, uses, is_label, Key, label_key, variable_key, number_key, same_key, key_by, key, known, count_if, cells}
+use Rattle.limits.specs.Symbols.{cells_before, cells_used, variable_cell, literal_cell}
 use Rattle.limits.proofs.Keys.{Way, holds, fails, way, clash, same_key_sound, known_complete}
 use Rattle.limits.proofs.Cells.{before_older, before_newest, below}
 use Rattle.sheets.specs.Images.{first_value, first_values, fixed_cells, first_cells}
@@ -25,7 +25,7 @@ held_by (variable_key x) = pos 0
 held_by (number_key n) = n
 
 module _ (w : Words) where
-  role_celled : (r : Role) (s : List ℕ) → not (is_label_lem r) ≡ celled (key_by w r s)
+  role_celled : (r : Role) (s : List ℕ) → not (is_label r) ≡ celled (key_by w r s)
   role_celled definition s = refl
   role_celled target s = refl
   role_celled listed s = refl
@@ -41,7 +41,7 @@ module _ (w : Words) where
 
   pub length_values : (us : List Use) → length (first_values w us) ≡ cells w us
   length_values [] = refl
-  length_values (u ∷ us) = go (not (is_label_lem u.role) && not (known w (key w u) us)) (length_values us)
+  length_values (u ∷ us) = go (not (is_label u.role) && not (known w (key w u) us)) (length_values us)
     where
       go : (b : Bool) → length (first_values w us) ≡ cells w us →
           length (cond b (first_values w us ++ (first_value w u.role u.spelling ∷ [])) (first_values w us)) ≡ count_if b (cells w us)
@@ -50,13 +50,13 @@ module _ (w : Words) where
 
   -- what is held before stays, and a new symbol's value comes after it
   kept : (u : Use) (us : List Use) (n : ℕ) → n < cells w us → get_or (first_values w (u ∷ us)) n (pos 0) ≡ get_or (first_values w us) n (pos 0)
-  kept u us n h = go (not (is_label_lem u.role) && not (known w (key w u) us))
+  kept u us n h = go (not (is_label u.role) && not (known w (key w u) us))
     where
       go : (b : Bool) → get_or (cond b (first_values w us ++ (first_value w u.role u.spelling ∷ [])) (first_values w us)) n (pos 0) ≡ get_or (first_values w us) n (pos 0)
       go true = get_or-append (first_values w us) (first_value w u.role u.spelling ∷ []) (pos 0) n (subst (λ (m : ℕ). n < m) (sym (length_values us)) h)
       go false = refl
 
-  added : (u : Use) (us : List Use) → not (is_label_lem u.role) ≡ true → known w (key w u) us ≡ false →
+  added : (u : Use) (us : List Use) → not (is_label u.role) ≡ true → known w (key w u) us ≡ false →
       get_or (first_values w (u ∷ us)) (cells w us) (pos 0) ≡ first_value w u.role u.spelling
   added u us a k = rw (a, k) (get_or_push (first_values w us) (first_value w u.role u.spelling) (pos 0) (cells w us) (length_values us))
 
@@ -79,12 +79,12 @@ module _ (w : Words) where
           ap (λ (n : ℕ). get_or (first_values w (u ∷ us)) n (pos 0)) (before_older w k u us h) ∙ kept u us (cells_before w k us) (b us h) ∙ ih h
       go (fails h) ih =
           let q : key w u ≡ k = newest_key k u us e h in
-          let a : not (is_label_lem u.role) ≡ true = role_celled u.role u.spelling ∙ ap celled q ∙ c in
+          let a : not (is_label u.role) ≡ true = role_celled u.role u.spelling ∙ ap celled q ∙ c in
           let d : known w (key w u) us ≡ false = ap (λ (x : Key). known w x us) q ∙ h in
           ap (λ (n : ℕ). get_or (first_values w (u ∷ us)) n (pos 0)) (before_newest w k u us h) ∙ added u us a d ∙ role_holds u.role u.spelling ∙ ap held_by q
 
 module _ (w : Words) (ts : List Token) where
-  pub length_cells : length (first_cells w ts) ≡ cells_used_lem w ts
+  pub length_cells : length (first_cells w ts) ≡ cells_used w ts
   length_cells = length-append fixed_cells (first_values w (uses ts)) ∙ ap (λ (n : ℕ). 66 + n) (length_values w (uses ts))
 
   past_fixed : (n : ℕ) → get_or (first_cells w ts) (66 + n) (pos 0) ≡ get_or (first_values w (uses ts)) n (pos 0)

@@ -7,7 +7,7 @@ use Rattle.token.specs.Numbers.{word}
 use Rattle.trees.specs.Trees.{Program}
 use Rattle.arithmetic.specs.Words.{Words}
 use Rattle.grammar.specs.Machine.{parse}
-use Rattle.limits.specs.Uses.{Role, definition, target, listed, variable_use, number_use, Use, uses, is_label_lem, key, known}
+use Rattle.limits.specs.Uses.{Role, definition, target, listed, variable_use, number_use, Use, uses, is_label, key, known}
 use Rattle.limits.specs.Rules.{tokens_of, Refused, Refusal, Accepted}
 use Rattle.limits.specs.Refusals.{text_refusal}
 use Rattle.limits.specs.Symbols as table
@@ -32,7 +32,7 @@ Accepts w text p = Accepted w program_size (length text) (tokens text) p
 
 -- where the variables and the numbers of a text have their cells, and how many cells are in use
 abbrev pub layout : Words → List Token → Layout
-layout w ts = record { variable_cell = table.variable_cell w ts; literal_cell = table.literal_cell w ts; used = table.cells_used_lem w ts }
+layout w ts = record { variable_cell = table.variable_cell w ts; literal_cell = table.literal_cell w ts; used = table.cells_used w ts }
 
 -- a variable's cell holds 0 at first, and a number's its word; a label has none
 abbrev pub first_value : Words → Role → List ℕ → ℤ
@@ -46,7 +46,7 @@ first_value w number_use s = word w s
 abbrev pub first_values : Words → List Use → List ℤ
 first_values w [] = []
 first_values w (u ∷ us) =
-    cond (not (is_label_lem u.role) && not (known w (key w u) us)) (first_values w us ++ (first_value w u.role u.spelling ∷ [])) (first_values w us)
+    cond (not (is_label u.role) && not (known w (key w u) us)) (first_values w us ++ (first_value w u.role u.spelling ∷ [])) (first_values w us)
 
 -- #TEMP holds 0, #ONE holds 1, and each of #TEMP1 to #TEMP64 holds 0
 abbrev pub fixed_cells : List ℤ

@@ -27,7 +27,7 @@ pub record PlacedImage (w : Words) (text : List ℕ) (p : Program) : Type 0 wher
   pub ready : Ready w (layout w (plain_tokens text)) p (image_of w text p).cells
   pub ready_before : (others : List ℤ) → Ready w (layout w (plain_tokens text)) p ((image_of w text p).cells ++ others)
   -- the cells are those in use, from 66 to 512
-  pub cells_used_lem : length (image_of w text p).cells ≡ (layout w (plain_tokens text)).used
+  pub cells_used : length (image_of w text p).cells ≡ (layout w (plain_tokens text)).used
   pub some_cells : 66 ≤ length (image_of w text p).cells
   pub few_cells : length (image_of w text p).cells ≤ 512
   pub few_symbols : length (image_of w text p).symbols ≤ 702

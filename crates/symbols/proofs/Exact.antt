@@ -5,7 +5,7 @@ use Rattle.std.specs.Str.{bytes_eq}
 use Rattle.std.proofs.lemmas.Bool.{false≢true, and_parts, and_from, le-leb, lt-leb, lt-ltb, le-ltb, not-true, not_from_false}
 use Rattle.token.specs.Numbers.{word}
 use Rattle.arithmetic.specs.Words.{Words}
-use Rattle.limits.specs.Uses.{Role, definition, target, listed, variable_use, number_use, Use, made, In, at_head, in_tail, is_literal, is_definition, is_label_lem, Key, label_key, variable_key, number_key, key_by, known, cells, labels}
+use Rattle.limits.specs.Uses.{Role, definition, target, listed, variable_use, number_use, Use, made, In, at_head, in_tail, is_literal, is_definition, is_label, Key, label_key, variable_key, number_key, key_by, known, cells, labels}
 use Rattle.limits.specs.Rules.{name_limit, cell_limit, label_limit}
 use Rattle.limits.specs.Refusals.{among, differ, unlike}
 use Rattle.limits.proofs.Keys.{Way, holds, fails, way, clash, among_sound, among_complete, known_complete, same_bytes_complete}
@@ -42,7 +42,7 @@ six_fails false false true d e h = absurd (none-ne-some 6 (sym h))
 six_fails false false false d e h = refl
 
 -- roles
-pub definition_label : (r : Role) → is_definition r ≡ true → is_label_lem r ≡ true
+pub definition_label : (r : Role) → is_definition r ≡ true → is_label r ≡ true
 definition_label definition e = refl
 definition_label target e = refl
 definition_label listed e = refl
@@ -56,7 +56,7 @@ definition_key w listed s e = absurd (false≢true e)
 definition_key w variable_use s e = absurd (false≢true e)
 definition_key w number_use s e = absurd (false≢true e)
 
-pub label_not_literal : (r : Role) → is_label_lem r ≡ true → is_literal r ≡ false
+pub label_not_literal : (r : Role) → is_label r ≡ true → is_literal r ≡ false
 label_not_literal definition e = refl
 label_not_literal target e = refl
 label_not_literal listed e = refl
@@ -68,7 +68,7 @@ abbrev pub name_key : Bool → List ℕ → Key
 name_key true s = label_key s
 name_key false s = variable_key s
 
-pub key_name : (w : Words) (r : Role) (s : List ℕ) → is_literal r ≡ false → key_by w r s ≡ name_key (is_label_lem r) s
+pub key_name : (w : Words) (r : Role) (s : List ℕ) → is_literal r ≡ false → key_by w r s ≡ name_key (is_label r) s
 key_name w definition s e = refl
 key_name w target s e = refl
 key_name w listed s e = refl
@@ -88,26 +88,26 @@ unlike_sym false false = refl
 pub record Differs (r q : Role) : Type 0 where
   pub first_name : is_literal r ≡ false
   pub second_name : is_literal q ≡ false
-  pub kinds : unlike (is_label_lem r) (is_label_lem q) ≡ true
+  pub kinds : unlike (is_label r) (is_label q) ≡ true
 
 pub differs : (r q : Role) → differ r q ≡ true → Differs r q
 differs r q e =
-    let a = and_parts (not (is_literal r)) (not (is_literal q) && unlike (is_label_lem r) (is_label_lem q)) e in
-    let b = and_parts (not (is_literal q)) (unlike (is_label_lem r) (is_label_lem q)) a.1 in
+    let a = and_parts (not (is_literal r)) (not (is_literal q) && unlike (is_label r) (is_label q)) e in
+    let b = and_parts (not (is_literal q)) (unlike (is_label r) (is_label q)) a.1 in
     record { first_name = not-true (is_literal r) a.0; second_name = not-true (is_literal q) b.0; kinds = b.1 }
 
 pub differs_from : (r q : Role) → Differs r q → differ r q ≡ true
 differs_from r q d =
-    and_from (not (is_literal r)) (not (is_literal q) && unlike (is_label_lem r) (is_label_lem q)) (not_from_false (is_literal r) d.first_name)
-    (and_from (not (is_literal q)) (unlike (is_label_lem r) (is_label_lem q)) (not_from_false (is_literal q) d.second_name) d.kinds)
+    and_from (not (is_literal r)) (not (is_literal q) && unlike (is_label r) (is_label q)) (not_from_false (is_literal r) d.first_name)
+    (and_from (not (is_literal q)) (unlike (is_label r) (is_label q)) (not_from_false (is_literal q) d.second_name) d.kinds)
 
 differ_refl : (r : Role) → differ r r ≡ true → ⊥
-differ_refl r e = clash (differs r r e).kinds (unlike_refl (is_label_lem r))
+differ_refl r e = clash (differs r r e).kinds (unlike_refl (is_label r))
 
 differ_sym : (r q : Role) → differ r q ≡ true → differ q r ≡ true
 differ_sym r q e =
     let d = differs r q e in
-    differs_from q r (record { first_name = d.second_name; second_name = d.first_name; kinds = unlike_sym (is_label_lem q) (is_label_lem r) ∙ d.kinds })
+    differs_from q r (record { first_name = d.second_name; second_name = d.first_name; kinds = unlike_sym (is_label q) (is_label r) ∙ d.kinds })
 
 -- a test of names fails where none passes
 none_among : (test : Role → Bool) (s : List ℕ) (us : List Use) → ((q : Role) → In (made q s) us → test q ≡ true → ⊥) → among test s us ≡ false
@@ -140,10 +140,10 @@ module _ (w : Words) where
   is_other us r s = among (differ r) s us
 
   abbrev pub no_cell_left : List Use → Role → List ℕ → Bool
-  no_cell_left us r s = not (is_label_lem r) && (not (known w (key_by w r s) us) && leb cell_limit (cells w us))
+  no_cell_left us r s = not (is_label r) && (not (known w (key_by w r s) us) && leb cell_limit (cells w us))
 
   abbrev pub no_label_left : List Use → Role → List ℕ → Bool
-  no_label_left us r s = is_label_lem r && (not (known w (key_by w r s) us) && leb label_limit (labels w us))
+  no_label_left us r s = is_label r && (not (known w (key_by w r s) us) && leb label_limit (labels w us))
 
   -- no name among accepted uses is of two kinds
   pub kinds_agree : (us : List Use) → Accepted w us → (r q : Role) (s : List ℕ) → In (made r s) us → In (made q s) us → differ r q ≡ true → ⊥
@@ -169,10 +169,10 @@ module _ (w : Words) where
   -- a known symbol needs no room
   module _ (us : List Use) (r : Role) (s : List ℕ) (h : known w (key_by w r s) us ≡ true) where
     has_cell : no_cell_left us r s ≡ false
-    has_cell = and_second (not (is_label_lem r)) _ (ap (λ x. not x && leb cell_limit (cells w us)) h)
+    has_cell = and_second (not (is_label r)) _ (ap (λ x. not x && leb cell_limit (cells w us)) h)
 
     has_label : no_label_left us r s ≡ false
-    has_label = and_second (is_label_lem r) _ (ap (λ x. not x && leb label_limit (labels w us)) h)
+    has_label = and_second (is_label r) _ (ap (λ x. not x && leb label_limit (labels w us)) h)
 
   -- a short name
   module _ (us : List Use) (r : Role) (s : List ℕ) (is_name : is_literal r ≡ false) (short : length s ≤ name_limit) where
@@ -187,21 +187,21 @@ module _ (w : Words) where
           (λ i. answer (four i) (p i) (is_other us r s) (no_cell_left us r s) (no_label_left us r s))
 
       module _ (five : is_second us r s ≡ false) where
-        pub other_kind : unlike (is_label_lem r) (is_label_lem q) ≡ true → use_refusal w us (made r s) ≡ some 6
+        pub other_kind : unlike (is_label r) (is_label q) ≡ true → use_refusal w us (made r s) ≡ some 6
         other_kind k =
             let p : is_other us r s ≡ true = among_complete (differ r) q s us found (differs_from r q (record { first_name = is_name; second_name = name-too; kinds = k })) in
             (λ i. answer (four i) (five i) (p i) (no_cell_left us r s) (no_label_left us r s))
 
-        pub known_again : is_label_lem r ≡ is_label_lem q → known w (key_by w r s) us ≡ true
+        pub known_again : is_label r ≡ is_label q → known w (key_by w r s) us ≡ true
         known_again k = known_complete w (key_by w r s) (made q s) us found (key_name w q s name-too ∙ ap (λ x. name_key x s) (sym k) ∙ sym (key_name w r s is_name))
 
-        not_other : is_label_lem r ≡ is_label_lem q → is_other us r s ≡ false
+        not_other : is_label r ≡ is_label q → is_other us r s ≡ false
         not_other k = none_among (differ r) s us (λ p i e. differs_not p i (differs r p e))
           where
             differs_not : (p : Role) → In (made p s) us → Differs r p → ⊥
-            differs_not p i d = kinds_agree us ok q p s found i (differs_from q p (record { first_name = name-too; second_name = d.second_name; kinds = ap (λ x. unlike x (is_label_lem p)) (sym k) ∙ d.kinds }))
+            differs_not p i d = kinds_agree us ok q p s found i (differs_from q p (record { first_name = name-too; second_name = d.second_name; kinds = ap (λ x. unlike x (is_label p)) (sym k) ∙ d.kinds }))
 
-        pub same_kind : is_label_lem r ≡ is_label_lem q → use_refusal w us (made r s) ≡ none
+        pub same_kind : is_label r ≡ is_label q → use_refusal w us (made r s) ≡ none
         same_kind k =
             let h = known_again k in
             (λ i. answer (four i) (five i) (not_other k i) (has_cell us r s h i) (has_label us r s h i))
@@ -209,14 +209,14 @@ module _ (w : Words) where
     -- that is not found
     module _ (no_label : known w (label_key s) us ≡ false) (no_variable : known w (variable_key s) us ≡ false) where
       none_named : (q : Role) → is_literal q ≡ false → In (made q s) us → ⊥
-      none_named q n i = go (is_label_lem q) (known_complete w (name_key (is_label_lem q) s) (made q s) us i (key_name w q s n))
+      none_named q n i = go (is_label q) (known_complete w (name_key (is_label q) s) (made q s) us i (key_name w q s n))
         where
           go : (b : Bool) → known w (name_key b s) us ≡ true → ⊥
           go true e = clash e no_label
           go false e = clash e no_variable
 
       pub new_name : known w (key_by w r s) us ≡ false
-      new_name = ap (λ x. known w x us) (key_name w r s is_name) ∙ go (is_label_lem r)
+      new_name = ap (λ x. known w x us) (key_name w r s is_name) ∙ go (is_label r)
         where
           go : (b : Bool) → known w (name_key b s) us ≡ false
           go true = no_label
@@ -231,29 +231,29 @@ module _ (w : Words) where
       first_kind : is_other us r s ≡ false
       first_kind = none_among (differ r) s us (λ q i e. none_named q (differs r q e).second_name i)
 
-      pub no_cell : is_label_lem r ≡ false → cell_limit ≤ cells w us → use_refusal w us (made r s) ≡ some 7
+      pub no_cell : is_label r ≡ false → cell_limit ≤ cells w us → use_refusal w us (made r s) ≡ some 7
       no_cell l h =
           let p : no_cell_left us r s ≡ true =
-          and_from (not (is_label_lem r)) _ (not_from_false (is_label_lem r) l) (and_from (not (known w (key_by w r s) us)) _ (not_from_false (known w (key_by w r s) us) new_name) (le-leb cell_limit (cells w us) h)) in
+          and_from (not (is_label r)) _ (not_from_false (is_label r) l) (and_from (not (known w (key_by w r s) us)) _ (not_from_false (known w (key_by w r s) us) new_name) (le-leb cell_limit (cells w us) h)) in
           (λ i. answer (four i) (not_second i) (first_kind i) (p i) (no_label_left us r s))
 
-      pub some_cell : is_label_lem r ≡ false → cells w us < cell_limit → use_refusal w us (made r s) ≡ none
+      pub some_cell : is_label r ≡ false → cells w us < cell_limit → use_refusal w us (made r s) ≡ none
       some_cell l h =
-          let p : no_cell_left us r s ≡ false = and_second (not (is_label_lem r)) _ (and_second (not (known w (key_by w r s) us)) _ (lt-leb cell_limit (cells w us) h)) in
-          let q : no_label_left us r s ≡ false = and_first (is_label_lem r) _ l in
+          let p : no_cell_left us r s ≡ false = and_second (not (is_label r)) _ (and_second (not (known w (key_by w r s) us)) _ (lt-leb cell_limit (cells w us) h)) in
+          let q : no_label_left us r s ≡ false = and_first (is_label r) _ l in
           (λ i. answer (four i) (not_second i) (first_kind i) (p i) (q i))
 
-      pub no_room : is_label_lem r ≡ true → label_limit ≤ labels w us → use_refusal w us (made r s) ≡ some 8
+      pub no_room : is_label r ≡ true → label_limit ≤ labels w us → use_refusal w us (made r s) ≡ some 8
       no_room l h =
-          let p : no_cell_left us r s ≡ false = and_first (not (is_label_lem r)) _ (ap not l) in
+          let p : no_cell_left us r s ≡ false = and_first (not (is_label r)) _ (ap not l) in
           let q : no_label_left us r s ≡ true =
-          and_from (is_label_lem r) _ l (and_from (not (known w (key_by w r s) us)) _ (not_from_false (known w (key_by w r s) us) new_name) (le-leb label_limit (labels w us) h)) in
+          and_from (is_label r) _ l (and_from (not (known w (key_by w r s) us)) _ (not_from_false (known w (key_by w r s) us) new_name) (le-leb label_limit (labels w us) h)) in
           (λ i. answer (four i) (not_second i) (first_kind i) (p i) (q i))
 
-      pub some_room : is_label_lem r ≡ true → labels w us < label_limit → use_refusal w us (made r s) ≡ none
+      pub some_room : is_label r ≡ true → labels w us < label_limit → use_refusal w us (made r s) ≡ none
       some_room l h =
-          let p : no_cell_left us r s ≡ false = and_first (not (is_label_lem r)) _ (ap not l) in
-          let q : no_label_left us r s ≡ false = and_second (is_label_lem r) _ (and_second (not (known w (key_by w r s) us)) _ (lt-leb label_limit (labels w us) h)) in
+          let p : no_cell_left us r s ≡ false = and_first (not (is_label r)) _ (ap not l) in
+          let q : no_label_left us r s ≡ false = and_second (is_label r) _ (and_second (not (known w (key_by w r s) us)) _ (lt-leb label_limit (labels w us) h)) in
           (λ i. answer (four i) (not_second i) (first_kind i) (p i) (q i))
 
   -- a number

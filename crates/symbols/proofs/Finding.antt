@@ -4,25 +4,25 @@ use Rattle.std.proofs.lemmas.List.{get_or-map, length-map}
 use Rattle.std.proofs.lemmas.Bool.{false≢true, and_parts, and_from, eq-eqb, lt-ltb}
 use Rattle.token.specs.Numbers.{word}
 use Rattle.arithmetic.specs.Words.{Words}
-use Rattle.limits.specs.Uses.{Role, definition, target, listed, variable_use, number_use, Use, In, at_head, in_tail, is_literal, is_label_lem, Key, label_key, variable_key, number_key, same_word, key_by, known}
+use Rattle.limits.specs.Uses.{Role, definition, target, listed, variable_use, number_use, Use, In, at_head, in_tail, is_literal, is_label, Key, label_key, variable_key, number_key, same_word, key_by, known}
 use Rattle.limits.specs.Symbols.{first_cell, kind_of}
 use Rattle.limits.proofs.Keys.{Way, holds, fails, way, clash, same_word_sound, same_word_refl, same_bytes_sound, same_bytes_complete}
 use Rattle.symbols.specs.declared.table.Table.{Table}
 use Rattle.symbols.specs.Entries.{blank, entry, kind_entry, part}
 use Rattle.symbols.specs.Mentions.{Mention, uses_of, address_in, Sound, AllSound, contents}
-use Rattle.symbols.specs.Table.{size, Holds, has_name_lem, of_label_lem, of_number, is_named_lem, is_valued_lem}
+use Rattle.symbols.specs.Table.{size, Holds, has_name, of_label, of_number, is_named, is_valued}
 use Rattle.symbols.proofs.Firsts.{First, no_first, entered, key_of, firsts, entries_are, firsts_count, contents_count, FirstAt, first_at, has_first}
 use Rattle.symbols.proofs.Exact.{in_cases}
 
 -- kinds and roles
-named_role : (r : Role) → has_name_lem (kind_entry (kind_of r)) ≡ true → is_literal r ≡ false
+named_role : (r : Role) → has_name (kind_entry (kind_of r)) ≡ true → is_literal r ≡ false
 named_role definition e = refl
 named_role target e = refl
 named_role listed e = refl
 named_role variable_use e = refl
 named_role number_use e = absurd (false≢true e)
 
-role_named : (r : Role) → is_literal r ≡ false → has_name_lem (kind_entry (kind_of r)) ≡ true
+role_named : (r : Role) → is_literal r ≡ false → has_name (kind_entry (kind_of r)) ≡ true
 role_named definition e = refl
 role_named target e = refl
 role_named listed e = refl
@@ -36,7 +36,7 @@ numbered_role listed e = absurd (false≢true e)
 numbered_role variable_use e = absurd (false≢true e)
 numbered_role number_use e = refl
 
-pub label_role : (r : Role) → of_label_lem (kind_entry (kind_of r)) ≡ is_label_lem r
+pub label_role : (r : Role) → of_label (kind_entry (kind_of r)) ≡ is_label r
 label_role definition = refl
 label_role target = refl
 label_role listed = refl
@@ -128,23 +128,23 @@ module _ (w : Words) (t : Table) (seen : List Mention) (h : Holds w t seen) wher
     spelled : part t.text.now p n ≡ s
     spelled = ap (part t.text.now p) (sym sized) ∙ bytes
 
-    pub name_found : (i : ℕ) → i < size t → is_named_lem t.text.now p n (get_or t.symbols.now i blank) ≡ true → Named (the i).mention.used.role (the i).mention.used.spelling s
+    pub name_found : (i : ℕ) → i < size t → is_named t.text.now p n (get_or t.symbols.now i blank) ≡ true → Named (the i).mention.used.role (the i).mention.used.spelling s
     name_found i l e =
         let f = the i in
-        let x : is_named_lem t.text.now p n (entry (entered (address_in seen) f)) ≡ true = ap (is_named_lem t.text.now p n) (sym (entry_at i l)) ∙ e in
-        let a = and_parts (has_name_lem (kind_entry (kind_of f.mention.used.role))) _ x in
+        let x : is_named t.text.now p n (entry (entered (address_in seen) f)) ≡ true = ap (is_named t.text.now p n) (sym (entry_at i l)) ∙ e in
+        let a = and_parts (has_name (kind_entry (kind_of f.mention.used.role))) _ x in
         let b = and_parts (eqb (length f.mention.used.spelling) n) _ a.1 in
         record { is_name = named_role f.mention.used.role a.0; spells = sym (first_bytes i l) ∙ same_bytes_sound _ _ b.1 ∙ spelled }
 
-    named : (i : ℕ) → i < size t → Named (the i).mention.used.role (the i).mention.used.spelling s → is_named_lem t.text.now p n (get_or t.symbols.now i blank) ≡ true
+    named : (i : ℕ) → i < size t → Named (the i).mention.used.role (the i).mention.used.spelling s → is_named t.text.now p n (get_or t.symbols.now i blank) ≡ true
     named i l a =
         let f = the i in
-        ap (is_named_lem t.text.now p n) (entry_at i l)
-        ∙ and_from (has_name_lem (kind_entry (kind_of f.mention.used.role))) _ (role_named f.mention.used.role a.is_name)
+        ap (is_named t.text.now p n) (entry_at i l)
+        ∙ and_from (has_name (kind_entry (kind_of f.mention.used.role))) _ (role_named f.mention.used.role a.is_name)
         (and_from (eqb (length f.mention.used.spelling) n) _ (eq-eqb _ _ (ap length a.spells ∙ sized))
         (same_bytes_complete _ _ (first_bytes i l ∙ a.spells ∙ sym spelled)))
 
-    module _ (none : (i : ℕ) → i < size t → is_named_lem t.text.now p n (get_or t.symbols.now i blank) ≡ false) where
+    module _ (none : (i : ℕ) → i < size t → is_named t.text.now p n (get_or t.symbols.now i blank) ≡ false) where
       absent : (k : Key) → ((i : ℕ) → key_of w (the i) ≡ k → Named (the i).mention.used.role (the i).mention.used.spelling s) → known w k us ≡ false
       absent k names = by (way (known w k us))
         where
@@ -167,20 +167,20 @@ module _ (w : Words) (t : Table) (seen : List Mention) (h : Holds w t seen) wher
         ((the i).before < t.celled) × (get_or t.cells.now (first_cell + (the i).before) (pos 0) ≡ word w (the i).mention.used.spelling)
     first_word i l r =
         let f = the_first i l in
-        let n : is_label_lem (the i).mention.used.role ≡ false = ap is_label_lem r in
+        let n : is_label (the i).mention.used.role ≡ false = ap is_label r in
         let b : (the i).before < t.celled = omega (arith, f.in_cells n, contents_count w us, h.cell_count) in
         (b, cell_at (the i).before b ∙ f.holds_it n ∙ ap (λ x. cond (is_literal x) (word w (the i).mention.used.spelling) (pos 0)) r)
 
     abbrev at_cell : ℕ → ℕ
-    at_cell i = cond (is_label_lem (the i).mention.used.role) (address_in seen (the i).mention.used.spelling) (first_cell + (the i).before)
+    at_cell i = cond (is_label (the i).mention.used.role) (address_in seen (the i).mention.used.spelling) (first_cell + (the i).before)
 
     at_is : (i : ℕ) → (the i).mention.used.role ≡ number_use → at_cell i ≡ first_cell + (the i).before
-    at_is i r = ap (λ x. cond (is_label_lem x) (address_in seen (the i).mention.used.spelling) (first_cell + (the i).before)) r
+    at_is i r = ap (λ x. cond (is_label x) (address_in seen (the i).mention.used.spelling) (first_cell + (the i).before)) r
 
-    pub number_found : (i : ℕ) → i < size t → is_valued_lem t.cells.now v (get_or t.symbols.now i blank) ≡ true → key_of w (the i) ≡ number_key v
+    pub number_found : (i : ℕ) → i < size t → is_valued t.cells.now v (get_or t.symbols.now i blank) ≡ true → key_of w (the i) ≡ number_key v
     number_found i l e =
         let f = the i in
-        let x : is_valued_lem t.cells.now v (entry (entered (address_in seen) f)) ≡ true = ap (is_valued_lem t.cells.now v) (sym (entry_at i l)) ∙ e in
+        let x : is_valued t.cells.now v (entry (entered (address_in seen) f)) ≡ true = ap (is_valued t.cells.now v) (sym (entry_at i l)) ∙ e in
         let a = and_parts (of_number (kind_entry (kind_of f.mention.used.role))) _ x in
         let b = and_parts (ltb (at_cell i) (length t.cells.now)) _ a.1 in
         let r = numbered_role f.mention.used.role a.0 in
@@ -189,7 +189,7 @@ module _ (w : Words) (t : Table) (seen : List Mention) (h : Holds w t seen) wher
         let z : word w f.mention.used.spelling ≡ v = sym y.1 ∙ ap (λ m. get_or t.cells.now m (pos 0)) (sym (at_is i r)) ∙ c in
         ap (λ q. key_by w q f.mention.used.spelling) r ∙ ap number_key z
 
-    pub no_number_key : ((i : ℕ) → i < size t → is_valued_lem t.cells.now v (get_or t.symbols.now i blank) ≡ false) → known w (number_key v) us ≡ false
+    pub no_number_key : ((i : ℕ) → i < size t → is_valued t.cells.now v (get_or t.symbols.now i blank) ≡ false) → known w (number_key v) us ≡ false
     no_number_key none = by (way (known w (number_key v) us))
       where
         by : Way (known w (number_key v) us) → known w (number_key v) us ≡ false
@@ -202,8 +202,8 @@ module _ (w : Words) (t : Table) (seen : List Mention) (h : Holds w t seen) wher
             let y = first_word i l q.is_number in
             let a = at_is i q.is_number in
             let m : at_cell i < length t.cells.now = omega (arith, a, y.0) in
-            let val : is_valued_lem t.cells.now v (get_or t.symbols.now i blank) ≡ true =
-            ap (is_valued_lem t.cells.now v) (entry_at i l)
+            let val : is_valued t.cells.now v (get_or t.symbols.now i blank) ≡ true =
+            ap (is_valued t.cells.now v) (entry_at i l)
             ∙ and_from (of_number (kind_entry (kind_of (the i).mention.used.role))) _ (ap (λ r. of_number (kind_entry (kind_of r))) q.is_number)
             (and_from (ltb (at_cell i) (length t.cells.now)) _ (lt-ltb _ _ m)
             (ap (λ z. same_word z v) (ap (λ z. get_or t.cells.now z (pos 0)) a ∙ y.1 ∙ q.is_word) ∙ same_word_refl v)) in

@@ -5,7 +5,7 @@ use Rattle.std.proofs.lemmas.List.{get_or_append_left, map-append}
 use Rattle.std.proofs.lemmas.Bool.{false≢true, cases_lt, or_cases, or_left, or_right}
 use Rattle.trees.specs.Trees.{Name}
 use Rattle.arithmetic.specs.Words.{Words}
-use Rattle.limits.specs.Uses.{number_use, Use, made, In, at_head, in_tail, is_label_lem, Key, same_key, key, known, count_if, cells, labels}
+use Rattle.limits.specs.Uses.{number_use, Use, made, In, at_head, in_tail, is_label, Key, same_key, key, known, count_if, cells, labels}
 use Rattle.limits.specs.Symbols.{Symbol, kind_of, first_cell, cells_before}
 use Rattle.limits.proofs.Keys.{Way, holds, fails, way, same_key_sound, same_key_complete}
 use Rattle.symbols.specs.Mentions.{Mention, uses_of, entries, count, index, initial, contents}
@@ -24,7 +24,7 @@ entered address f = record {
   kind = kind_of f.mention.used.role;
   place = f.mention.place;
   length = length f.mention.used.spelling;
-  at = cond (is_label_lem f.mention.used.role) (address f.mention.used.spelling) (first_cell + f.before);
+  at = cond (is_label f.mention.used.role) (address f.mention.used.spelling) (first_cell + f.before);
 }
 
 module _ (w : Words) where
@@ -57,7 +57,7 @@ module _ (w : Words) where
   pub firsts_count : (seen : List Mention) → length (firsts seen) ≡ count w (uses_of seen)
   firsts_count [] = refl
   firsts_count (m ∷ seen) =
-      counted (is_label_lem m.used.role) (known w (key w m.used) (uses_of seen)) (cells w (uses_of seen)) (labels w (uses_of seen)) (firsts seen)
+      counted (is_label m.used.role) (known w (key w m.used) (uses_of seen)) (cells w (uses_of seen)) (labels w (uses_of seen)) (firsts seen)
       (record { mention = m; before = cells w (uses_of seen) }) (firsts_count seen)
 
   contents_more : (b : Bool) (n : ℕ) (xs : List ℤ) (x : ℤ) → length xs ≡ n → length (cond b (xs ++ (x ∷ [])) xs) ≡ count_if b n
@@ -66,7 +66,7 @@ module _ (w : Words) where
 
   pub contents_count : (us : List Use) → length (contents w us) ≡ cells w us
   contents_count [] = refl
-  contents_count (u ∷ us) = contents_more (not (is_label_lem u.role) && not (known w (key w u) us)) (cells w us) (contents w us) (initial w u) (contents_count us)
+  contents_count (u ∷ us) = contents_more (not (is_label u.role) && not (known w (key w u) us)) (cells w us) (contents w us) (initial w u) (contents_count us)
 
   -- what is known of the i-th first mention
   pub record FirstAt (seen : List Mention) (i : ℕ) (f : First) : Type 0 where
@@ -74,8 +74,8 @@ module _ (w : Words) where
     pub at_index : index w (key_of f) (uses_of seen) ≡ i
     pub cells_are : cells_before w (key_of f) (uses_of seen) ≡ f.before
     pub is_in : In f.mention seen
-    pub in_cells : is_label_lem f.mention.used.role ≡ false → f.before < length (contents w (uses_of seen))
-    pub holds_it : is_label_lem f.mention.used.role ≡ false → get_or (contents w (uses_of seen)) f.before (pos 0) ≡ initial w f.mention.used
+    pub in_cells : is_label f.mention.used.role ≡ false → f.before < length (contents w (uses_of seen))
+    pub holds_it : is_label f.mention.used.role ≡ false → get_or (contents w (uses_of seen)) f.before (pos 0) ≡ initial w f.mention.used
 
   still_in : (b : Bool) (n : ℕ) (xs : List ℤ) (x : ℤ) → n < length xs → n < length (cond b (xs ++ (x ∷ [])) xs)
   still_in true n xs x l = rw (length-append xs (x ∷ [])) (omega arith)
@@ -89,7 +89,7 @@ module _ (w : Words) where
   pub older : (m : Mention) (seen : List Mention) (i : ℕ) (f : First) → FirstAt seen i f → FirstAt (m ∷ seen) i f
   older m seen i f a =
       let us = uses_of seen in
-      let b = not (is_label_lem m.used.role) && not (known w (key w m.used) us) in
+      let b = not (is_label m.used.role) && not (known w (key w m.used) us) in
       record {
         is_known = or_right (same_key (key_of f) (key w m.used)) (known w (key_of f) us) a.is_known;
         at_index = ap (λ x. cond x (index w (key_of f) us) (count w us)) a.is_known ∙ a.at_index;
@@ -115,7 +115,7 @@ module _ (w : Words) where
             ∙ get_or-append_seam (contents w us) (initial w m.used) [] (pos 0);
       }
     where
-      more : is_label_lem m.used.role ≡ false → contents w (uses_of (m ∷ seen)) ≡ contents w (uses_of seen) ++ (initial w m.used ∷ [])
+      more : is_label m.used.role ≡ false → contents w (uses_of (m ∷ seen)) ≡ contents w (uses_of seen) ++ (initial w m.used ∷ [])
       more h = (λ i. cond (not (h i) && not (e i)) (contents w (uses_of seen) ++ (initial w m.used ∷ [])) (contents w (uses_of seen)))
 
   pub firsts_old : (m : Mention) (seen : List Mention) → known w (key w m.used) (uses_of seen) ≡ true → firsts (m ∷ seen) ≡ firsts seen

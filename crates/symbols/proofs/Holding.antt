@@ -7,7 +7,7 @@ use Rattle.std.proofs.lemmas.List.{get_or-map, length-map, map-append, take_more
 use Rattle.std.proofs.lemmas.Bool.{false≢true, and_parts, cases_lt}
 use Rattle.trees.specs.Trees.{Name}
 use Rattle.arithmetic.specs.Words.{Words}
-use Rattle.limits.specs.Uses.{Role, definition, target, listed, variable_use, number_use, Use, is_definition, is_label_lem, Key, label_key, key_by, key, known, count_if, cells, labels}
+use Rattle.limits.specs.Uses.{Role, definition, target, listed, variable_use, number_use, Use, is_definition, is_label, Key, label_key, key_by, key, known, count_if, cells, labels}
 use Rattle.limits.specs.Symbols.{first_cell, kind_of}
 use Rattle.limits.proofs.Keys.{Way, holds, fails, way, clash, same_bytes_sound, same_bytes_complete}
 use Rattle.symbols.specs.declared.table.Table.{Table}
@@ -48,21 +48,21 @@ module _ {A B : Type 0} (g h : A → B) (xs : List A) (d : A) where
           get_or-map g xs i d (h d) l ∙ ap (λ x. g (get_or xs x d)) q ∙ sym (ap (λ x. get_or (set (map h xs) j (g (get_or xs j d))) x (h d)) q ∙ get_or-set_same (map h xs) j (g (get_or xs j d)) (h d) n)
       at i l (other q) = get_or-map g xs i d (h d) l ∙ e i l q ∙ sym (get_or-map h xs i d (h d) l) ∙ sym (get_or-set_other (map h xs) j i (g (get_or xs j d)) (h d) q)
 
-label_kind : (r : Role) → is_label_lem r ≡ true → kind_entry (kind_of r) ≡ Label
+label_kind : (r : Role) → is_label r ≡ true → kind_entry (kind_of r) ≡ Label
 label_kind definition e = refl
 label_kind target e = refl
 label_kind listed e = refl
 label_kind variable_use e = absurd (false≢true e)
 label_kind number_use e = absurd (false≢true e)
 
-pub label_keyed : (w : Words) (r : Role) (s : List ℕ) → is_label_lem r ≡ true → key_by w r s ≡ label_key s
+pub label_keyed : (w : Words) (r : Role) (s : List ℕ) → is_label r ≡ true → key_by w r s ≡ label_key s
 label_keyed w definition s e = refl
 label_keyed w target s e = refl
 label_keyed w listed s e = refl
 label_keyed w variable_use s e = absurd (false≢true e)
 label_keyed w number_use s e = absurd (false≢true e)
 
-pub cell_defines_none : (r : Role) → is_label_lem r ≡ false → is_definition r ≡ false
+pub cell_defines_none : (r : Role) → is_label r ≡ false → is_definition r ≡ false
 cell_defines_none definition e = absurd (clash refl e)
 cell_defines_none target e = refl
 cell_defines_none listed e = refl
@@ -100,12 +100,12 @@ module _ (w : Words) (a : Table) (seen : List Mention) (h : Holds w a seen) (m :
 
   -- an entry changes only if it is that of the label that is placed
   unchanged : (g : First) → (key_of w g ≡ label_key s → ⊥) → entered then_at g ≡ entered now_at g
-  unchanged g not-it = ap (λ n. record { kind = kind_of g.mention.used.role; place = g.mention.place; length = length g.mention.used.spelling; at = n }) (by (way (is_label_lem g.mention.used.role)) (way (is_definition r && bytes_eq g.mention.used.spelling s)))
+  unchanged g not-it = ap (λ n. record { kind = kind_of g.mention.used.role; place = g.mention.place; length = length g.mention.used.spelling; at = n }) (by (way (is_label g.mention.used.role)) (way (is_definition r && bytes_eq g.mention.used.spelling s)))
     where
-      by : Way (is_label_lem g.mention.used.role) → Way (is_definition r && bytes_eq g.mention.used.spelling s) →
-          cond (is_label_lem g.mention.used.role) (then_at g.mention.used.spelling) (first_cell + g.before) ≡ cond (is_label_lem g.mention.used.role) (now_at g.mention.used.spelling) (first_cell + g.before)
+      by : Way (is_label g.mention.used.role) → Way (is_definition r && bytes_eq g.mention.used.spelling s) →
+          cond (is_label g.mention.used.role) (then_at g.mention.used.spelling) (first_cell + g.before) ≡ cond (is_label g.mention.used.role) (now_at g.mention.used.spelling) (first_cell + g.before)
       by (fails e) q = (λ i. cond (e i) (then_at g.mention.used.spelling) (first_cell + g.before)) ∙ sym (λ i. cond (e i) (now_at g.mention.used.spelling) (first_cell + g.before))
-      by (holds e) (fails q) = ap (λ x. cond (is_label_lem g.mention.used.role) (cond x m.address (now_at g.mention.used.spelling)) (first_cell + g.before)) q
+      by (holds e) (fails q) = ap (λ x. cond (is_label g.mention.used.role) (cond x m.address (now_at g.mention.used.spelling)) (first_cell + g.before)) q
       by (holds e) (holds q) =
           let z = same_bytes_sound _ _ (and_parts (is_definition r) (bytes_eq g.mention.used.spelling s) q).1 in
           absurd (not-it (label_keyed w g.mention.used.role g.mention.used.spelling e ∙ ap label_key z))
@@ -116,13 +116,13 @@ module _ (w : Words) (a : Table) (seen : List Mention) (h : Holds w a seen) (m :
   -- a known symbol, that is not placed now
   module _ (old : known w k us ≡ true) where
     cells_stay : cells w (m.used ∷ us) ≡ cells w us
-    cells_stay = same_size _ (cells w us) (and_second (not (is_label_lem r)) _ (ap not old))
+    cells_stay = same_size _ (cells w us) (and_second (not (is_label r)) _ (ap not old))
 
     labels_stay : labels w (m.used ∷ us) ≡ labels w us
-    labels_stay = same_size _ (labels w us) (and_second (is_label_lem r) _ (ap not old))
+    labels_stay = same_size _ (labels w us) (and_second (is_label r) _ (ap not old))
 
     contents_stay : contents w (m.used ∷ us) ≡ contents w us
-    contents_stay = ap (λ x. cond x (contents w us ++ (initial w m.used ∷ [])) (contents w us)) (and_second (not (is_label_lem r)) _ (ap not old))
+    contents_stay = ap (λ x. cond x (contents w us ++ (initial w m.used ∷ [])) (contents w us)) (and_second (not (is_label r)) _ (ap not old))
 
     entries_then : entries w then_at (m ∷ seen) ≡ map (entered then_at) fs
     entries_then = entries_are w then_at (m ∷ seen) ∙ ap (map (entered then_at)) (firsts_old w m seen old)
@@ -140,7 +140,7 @@ module _ (w : Words) (a : Table) (seen : List Mention) (h : Holds w a seen) (m :
     }
 
     -- the label at the index i gets its address
-    pub holds_placed : (b : Table) (i : ℕ) → i < size a → key_of w (the w a seen h i) ≡ label_key s → is_label_lem (the w a seen h i).mention.used.role ≡ true →
+    pub holds_placed : (b : Table) (i : ℕ) → i < size a → key_of w (the w a seen h i) ≡ label_key s → is_label (the w a seen h i).mention.used.role ≡ true →
         (the w a seen h i).mention.used.spelling ≡ s → is_definition r ≡ true → PlacesLabel a b i m.address → Holds w b (m ∷ seen)
     holds_placed b i l q lab sp d p =
         let g = the w a seen h i in
@@ -180,7 +180,7 @@ module _ (w : Words) (a : Table) (seen : List Mention) (h : Holds w a seen) (m :
         ∙ sym (ap (map entry) (entries_are w then_at (m ∷ seen) ∙ ap (map (entered then_at)) (firsts_new w m seen new) ∙ map-append (entered then_at) fs (f ∷ []))
         ∙ map-append entry (map (entered then_at) fs) (entered then_at f ∷ []))
 
-    pub holds_cell : (b : Table) (c : Kind) (v : ℤ) → is_label_lem r ≡ false → c ≡ kind_entry (kind_of r) → v ≡ initial w m.used →
+    pub holds_cell : (b : Table) (c : Kind) (v : ℤ) → is_label r ≡ false → c ≡ kind_entry (kind_of r) → v ≡ initial w m.used →
         AddsCell a b (cell_symbol c m.place (length s) a.celled) v → a.celled < 446 → Holds w b (m ∷ seen)
     holds_cell b c v n kd val p low =
         let gets : cell_symbol c m.place (length s) a.celled ≡ entry (entered then_at f) =
@@ -188,8 +188,8 @@ module _ (w : Words) (a : Table) (seen : List Mention) (h : Holds w a seen) (m :
         let one : a.celled + 1 + a.labels ≡ size a + 1 = omega arith in
         let room : size a < length a.symbols.now = omega arith in
         let croom : a.celled < length (drop first_cell a.cells.now) = simp length-drop (omega arith) in
-        let more : (not (is_label_lem r) && not (known w k us)) ≡ true = (λ j. not (n j) && not (new j)) in
-        let none_more : (is_label_lem r && not (known w k us)) ≡ false = and_first (is_label_lem r) _ n in
+        let more : (not (is_label r) && not (known w k us)) ≡ true = (λ j. not (n j) && not (new j)) in
+        let none_more : (is_label r && not (known w k us)) ≡ false = and_first (is_label r) _ n in
         record {
           symbols_room = subst (λ (n : ℕ). 702 ≤ n) (sym (ap length p.symbols_are ∙ length-set a.symbols.now (size a) _)) h.symbols_room;
           cells_room = subst (λ (n : ℕ). 512 ≤ n) (sym (ap length p.cells_are ∙ length-set a.cells.now (first_cell + a.celled) v)) h.cells_room;
@@ -204,7 +204,7 @@ module _ (w : Words) (a : Table) (seen : List Mention) (h : Holds w a seen) (m :
               ∙ sym (ap (λ x. cond x (contents w us ++ (initial w m.used ∷ [])) (contents w us)) more);
         }
 
-    pub holds_label : (b : Table) (at : ℕ) → is_label_lem r ≡ true → at ≡ then_at s → known w (label_key s) us ≡ false →
+    pub holds_label : (b : Table) (at : ℕ) → is_label r ≡ true → at ≡ then_at s → known w (label_key s) us ≡ false →
         AddsLabel a b (label_symbol m.place (length s) at) → a.labels < 256 → Holds w b (m ∷ seen)
     holds_label b at n is_at gone p low =
         let len = firsts_size w a seen h in
@@ -214,8 +214,8 @@ module _ (w : Words) (a : Table) (seen : List Mention) (h : Holds w a seen) (m :
         (λ j. record { kind = sym (label_kind r n) j; place = m.place; length = length s; at = is_at j }) ∙ sym (λ j. record { kind = kind_entry (kind_of r); place = m.place; length = length s; at = cond (n j) (then_at s) (first_cell + cells w us) }) in
         let one : a.celled + (a.labels + 1) ≡ size a + 1 = omega arith in
         let room : size a < length a.symbols.now = omega arith in
-        let more : (is_label_lem r && not (known w k us)) ≡ true = (λ j. n j && not (new j)) in
-        let none_more : (not (is_label_lem r) && not (known w k us)) ≡ false = and_first (not (is_label_lem r)) _ (ap not n) in
+        let more : (is_label r && not (known w k us)) ≡ true = (λ j. n j && not (new j)) in
+        let none_more : (not (is_label r) && not (known w k us)) ≡ false = and_first (not (is_label r)) _ (ap not n) in
         record {
           symbols_room = subst (λ (n : ℕ). 702 ≤ n) (sym (ap length p.symbols_are ∙ length-set a.symbols.now (size a) _)) h.symbols_room;
           cells_room = subst (λ (n : ℕ). 512 ≤ n) (sym (ap length p.cells_are)) h.cells_room;

@@ -10,7 +10,7 @@ use Rattle.arithmetic.specs.Words.{Words}
 use Rattle.fault.specs.declared.Refusal.{Refusal}
 use Rattle.fault.specs.declared.Refusal.TheVariants.{DuplicateLabel, MixedKind, TooManyCells, TooManyLabels}
 use Rattle.fault.specs.Refusals.{numbered}
-use Rattle.limits.specs.Uses.{Role, definition, target, listed, variable_use, number_use, Use, made, In, is_literal, is_definition, is_label_lem, Key, label_key, variable_key, number_key, key_by, known, cells, labels}
+use Rattle.limits.specs.Uses.{Role, definition, target, listed, variable_use, number_use, Use, made, In, is_literal, is_definition, is_label, Key, label_key, variable_key, number_key, key_by, known, cells, labels}
 use Rattle.limits.specs.Rules.{name_limit, cell_limit, label_limit}
 use Rattle.limits.specs.Refusals.{among, unlike}
 use Rattle.limits.specs.Symbols.{first_cell, kind_of}
@@ -20,7 +20,7 @@ use Rattle.symbols.specs.declared.kinds.Role.{Role as Told}
 use Rattle.symbols.specs.declared.kinds.Role.TheVariants as told
 use Rattle.symbols.specs.Entries.{Variable, Number, Symbol, blank, kind_entry, meant}
 use Rattle.symbols.specs.Mentions.{Mention, uses_of, pending, address_in, Sound, index, use_refusal}
-use Rattle.symbols.specs.Table.{size, Holds, Keeps, mention, Taken, of_label_lem, is_named_lem, is_valued_lem, known_refusal_lem, room_refusal_lem, AddsCell, AddsLabel, AddsName, PlacesLabel, cell_symbol, label_symbol}
+use Rattle.symbols.specs.Table.{size, Holds, Keeps, mention, Taken, of_label, is_named, is_valued, known_refusal, room_refusal, AddsCell, AddsLabel, AddsName, PlacesLabel, cell_symbol, label_symbol}
 use Rattle.symbols.proofs.Firsts.{First, key_of}
 use Rattle.symbols.proofs.Exact as exact
 use Rattle.symbols.proofs.Exact.{definition_label, label_not_literal, kinds_agree, differs_from, pending_none, placed_below, key_name, name_key}
@@ -51,7 +51,7 @@ pub below_other : (n : ℕ) → n < pending → eqb n pending ≡ false
 below_other n l = grind (arith, nat_tests)
 
 -- no entry too many
-role_of_variable : (r : Role) → is_literal r ≡ false → is_label_lem r ≡ false → kind_entry (kind_of r) ≡ Variable
+role_of_variable : (r : Role) → is_literal r ≡ false → is_label r ≡ false → kind_entry (kind_of r) ≡ Variable
 role_of_variable definition n e = absurd (clash refl e)
 role_of_variable target n e = absurd (clash refl e)
 role_of_variable listed n e = absurd (clash refl e)
@@ -72,7 +72,7 @@ module _ (w : Words) (a : Table) (seen : List Mention) (h : Holds w a seen) (r :
     short = let l = ltb-false name_limit n not-long in omega (arith, sized)
 
     -- it has the entry at i
-    module _ (i : ℕ) (low : i < size a) (found : is_named_lem a.text.now p n (get_or a.symbols.now i blank) ≡ true) where
+    module _ (i : ℕ) (low : i < size a) (found : is_named a.text.now p n (get_or a.symbols.now i blank) ≡ true) where
       abbrev f : First
       f = the w a seen h i
 
@@ -88,17 +88,17 @@ module _ (w : Words) (a : Table) (seen : List Mention) (h : Holds w a seen) (r :
       used_so : In (made q s) us
       used_so = subst (λ (x : List ℕ). In (made q x) us) its_name.spells (use_in seen f.mention (the_first w a seen h i low).is_in)
 
-      kind_is : of_label_lem e.kind ≡ is_label_lem q
-      kind_is = ap (λ (x : Symbol). of_label_lem x.kind) (entry_at w a seen h i low) ∙ label_role q
+      kind_is : of_label e.kind ≡ is_label q
+      kind_is = ap (λ (x : Symbol). of_label x.kind) (entry_at w a seen h i low) ∙ label_role q
 
-      at_is : is_label_lem q ≡ true → e.at ≡ address_in seen s
+      at_is : is_label q ≡ true → e.at ≡ address_in seen s
       at_is l = ap (λ (x : Symbol). x.at) (entry_at w a seen h i low) ∙ (λ j. cond (l j) (address_in seen (its_name.spells j)) (first_cell + f.before))
 
       -- its label is placed exactly if it stands before a command
-      placed_is : (of_label_lem e.kind && not (eqb e.at pending)) ≡ among is_definition s us
-      placed_is = by (way (is_label_lem q)) (way (among is_definition s us))
+      placed_is : (of_label e.kind && not (eqb e.at pending)) ≡ among is_definition s us
+      placed_is = by (way (is_label q)) (way (among is_definition s us))
         where
-          by : Way (is_label_lem q) → Way (among is_definition s us) → (of_label_lem e.kind && not (eqb e.at pending)) ≡ among is_definition s us
+          by : Way (is_label q) → Way (among is_definition s us) → (of_label e.kind && not (eqb e.at pending)) ≡ among is_definition s us
           by (holds l) (holds m) =
               (λ j. (kind_is ∙ l) j && not (eqb (at_is l j) pending)) ∙ ap not (below_other (address_in seen s) (placed_below a.text.now seen h.sound s m)) ∙ sym m
           by (holds l) (fails m) =
@@ -112,34 +112,34 @@ module _ (w : Words) (a : Table) (seen : List Mention) (h : Holds w a seen) (r :
                 kinds = (λ j. unlike (l j) (definition_label x.0 x.2 j));
               })))
 
-      second_is : (is_definition r && (of_label_lem e.kind && not (eqb e.at pending))) ≡ (is_definition r && among is_definition s us)
+      second_is : (is_definition r && (of_label e.kind && not (eqb e.at pending))) ≡ (is_definition r && among is_definition s us)
       second_is = ap (λ x. is_definition r && x) placed_is
 
-      pub known_number_is : use_refusal w us (made r s) ≡ number_of (known_refusal_lem r e)
-      known_number_is = by (way (is_definition r && among is_definition s us)) (way (unlike (is_label_lem r) (is_label_lem q)))
+      pub known_number_is : use_refusal w us (made r s) ≡ number_of (known_refusal r e)
+      known_number_is = by (way (is_definition r && among is_definition s us)) (way (unlike (is_label r) (is_label q)))
         where
-          by : Way (is_definition r && among is_definition s us) → Way (unlike (is_label_lem r) (is_label_lem q)) → use_refusal w us (made r s) ≡ number_of (known_refusal_lem r e)
+          by : Way (is_definition r && among is_definition s us) → Way (unlike (is_label r) (is_label q)) → use_refusal w us (made r s) ≡ number_of (known_refusal r e)
           by (holds d) k =
               let x = and_parts (is_definition r) (among is_definition s us) d in
               exact.second_definition w us r s is_name short h.accepted q used_so its_name.is_name x.0 x.1
-              ∙ sym (ap (λ b. number_of (cond b (Some DuplicateLabel) (cond (unlike (is_label_lem r) (of_label_lem e.kind)) (Some MixedKind) None))) (second_is ∙ d))
+              ∙ sym (ap (λ b. number_of (cond b (Some DuplicateLabel) (cond (unlike (is_label r) (of_label e.kind)) (Some MixedKind) None))) (second_is ∙ d))
           by (fails d) (holds k) =
               exact.other_kind w us r s is_name short h.accepted q used_so its_name.is_name d k
-              ∙ sym ((λ j. number_of (cond ((second_is ∙ d) j) (Some DuplicateLabel) (cond (unlike (is_label_lem r) (kind_is j)) (Some MixedKind) None))) ∙ ap (λ b. number_of (cond b (Some MixedKind) None)) k)
+              ∙ sym ((λ j. number_of (cond ((second_is ∙ d) j) (Some DuplicateLabel) (cond (unlike (is_label r) (kind_is j)) (Some MixedKind) None))) ∙ ap (λ b. number_of (cond b (Some MixedKind) None)) k)
           by (fails d) (fails k) =
               exact.same_kind w us r s is_name short h.accepted q used_so its_name.is_name d (unlike_same _ _ k)
-              ∙ sym ((λ j. number_of (cond ((second_is ∙ d) j) (Some DuplicateLabel) (cond (unlike (is_label_lem r) (kind_is j)) (Some MixedKind) None))) ∙ ap (λ b. number_of (cond b (Some MixedKind) None)) k)
+              ∙ sym ((λ j. number_of (cond ((second_is ∙ d) j) (Some DuplicateLabel) (cond (unlike (is_label r) (kind_is j)) (Some MixedKind) None))) ∙ ap (λ b. number_of (cond b (Some MixedKind) None)) k)
 
       -- none stands
-      module _ (fine : known_refusal_lem r e ≡ None) where
+      module _ (fine : known_refusal r e ≡ None) where
         no_refusal : use_refusal w us (made r s) ≡ maybe.none
         no_refusal = known_number_is ∙ ap number_of fine
 
-        same_kind : is_label_lem r ≡ is_label_lem q
-        same_kind = by (way (is_definition r && (of_label_lem e.kind && not (eqb e.at pending)))) (way (unlike (is_label_lem r) (of_label_lem e.kind)))
+        same_kind : is_label r ≡ is_label q
+        same_kind = by (way (is_definition r && (of_label e.kind && not (eqb e.at pending)))) (way (unlike (is_label r) (of_label e.kind)))
           where
-            by : Way (is_definition r && (of_label_lem e.kind && not (eqb e.at pending))) → Way (unlike (is_label_lem r) (of_label_lem e.kind)) → is_label_lem r ≡ is_label_lem q
-            by (holds d) k = absurd (none_some DuplicateLabel (sym fine ∙ ap (λ b. cond b (Some DuplicateLabel) (cond (unlike (is_label_lem r) (of_label_lem e.kind)) (Some MixedKind) None)) d))
+            by : Way (is_definition r && (of_label e.kind && not (eqb e.at pending))) → Way (unlike (is_label r) (of_label e.kind)) → is_label r ≡ is_label q
+            by (holds d) k = absurd (none_some DuplicateLabel (sym fine ∙ ap (λ b. cond b (Some DuplicateLabel) (cond (unlike (is_label r) (of_label e.kind)) (Some MixedKind) None)) d))
             by (fails d) (holds k) = absurd (none_some MixedKind (sym fine ∙ (λ j. cond (d j) (Some DuplicateLabel) (cond (k j) (Some MixedKind) None))))
             by (fails d) (fails k) = unlike_same _ _ k ∙ kind_is
 
@@ -165,17 +165,17 @@ module _ (w : Words) (a : Table) (seen : List Mention) (h : Holds w a seen) (r :
             }
 
     -- it has none
-    module _ (missing : (i : ℕ) → i < size a → is_named_lem a.text.now p n (get_or a.symbols.now i blank) ≡ false) where
+    module _ (missing : (i : ℕ) → i < size a → is_named a.text.now p n (get_or a.symbols.now i blank) ≡ false) where
       no_label : known w (label_key s) us ≡ false
       no_label = no_label_key w a seen h p n s sized snd.bytes missing
 
       no_variable : known w (variable_key s) us ≡ false
       no_variable = no_variable_key w a seen h p n s sized snd.bytes missing
 
-      pub room_number_is : use_refusal w us (made r s) ≡ number_of (room_refusal_lem r a.celled a.labels)
-      room_number_is = by (way (is_label_lem r)) (way (leb label_limit a.labels)) (way (leb cell_limit a.celled))
+      pub room_number_is : use_refusal w us (made r s) ≡ number_of (room_refusal r a.celled a.labels)
+      room_number_is = by (way (is_label r)) (way (leb label_limit a.labels)) (way (leb cell_limit a.celled))
         where
-          by : Way (is_label_lem r) → Way (leb label_limit a.labels) → Way (leb cell_limit a.celled) → use_refusal w us (made r s) ≡ number_of (room_refusal_lem r a.celled a.labels)
+          by : Way (is_label r) → Way (leb label_limit a.labels) → Way (leb cell_limit a.celled) → use_refusal w us (made r s) ≡ number_of (room_refusal r a.celled a.labels)
           by (holds l) (holds m) c =
               exact.no_room w us r s is_name short no_label no_variable l (let x = leb-true label_limit a.labels m in omega (arith, h.label_count))
               ∙ sym (λ j. number_of (cond (l j) (cond (m j) (Some TooManyLabels) None) (cond (leb cell_limit a.celled) (Some TooManyCells) None)))
@@ -189,7 +189,7 @@ module _ (w : Words) (a : Table) (seen : List Mention) (h : Holds w a seen) (r :
               exact.some_cell w us r s is_name short no_label no_variable l (let x = leb-false cell_limit a.celled c in omega (arith, h.cell_count))
               ∙ sym (λ j. number_of (cond (l j) (cond (leb label_limit a.labels) (Some TooManyLabels) None) (cond (c j) (Some TooManyCells) None)))
 
-      module _ (fine : room_refusal_lem r a.celled a.labels ≡ None) where
+      module _ (fine : room_refusal r a.celled a.labels ≡ None) where
         none_stands : use_refusal w us (made r s) ≡ maybe.none
         none_stands = room_number_is ∙ ap number_of fine
 
@@ -199,14 +199,14 @@ module _ (w : Words) (a : Table) (seen : List Mention) (h : Holds w a seen) (r :
         new_index : size a ≡ index w (key_by w r s) (made r s ∷ us)
         new_index = (λ i. h.cell_count i + h.label_count i) ∙ sym (ap (λ x. cond x (index w (key_by w r s) us) (cells w us + labels w us)) new_key)
 
-        few_labels : is_label_lem r ≡ true → a.labels < 256
+        few_labels : is_label r ≡ true → a.labels < 256
         few_labels l = by (way (leb label_limit a.labels))
           where
             by : Way (leb label_limit a.labels) → a.labels < 256
             by (fails m) = leb-false label_limit a.labels m
             by (holds m) = absurd (none_some TooManyLabels (sym fine ∙ (λ j. cond (l j) (cond (m j) (Some TooManyLabels) None) (cond (leb cell_limit a.celled) (Some TooManyCells) None))))
 
-        few_cells : is_label_lem r ≡ false → a.celled < 446
+        few_cells : is_label r ≡ false → a.celled < 446
         few_cells l = by (way (leb cell_limit a.celled))
           where
             by : Way (leb cell_limit a.celled) → a.celled < 446
@@ -225,9 +225,9 @@ module _ (w : Words) (a : Table) (seen : List Mention) (h : Holds w a seen) (r :
             by (fails d) = ap (λ b. cond b address pending) d ∙ sym (exact.defined_not seen (mention r s p address) s d ∙ use_s)
 
         pub new_taken : (b : Table) → AddsName a b r p n address → Taken w b seen (mention r s p address) (size a)
-        new_taken b x = record { no_refusal = none_stands; holds = by (way (is_label_lem r)); is_index = new_index }
+        new_taken b x = record { no_refusal = none_stands; holds = by (way (is_label r)); is_index = new_index }
           where
-            by : Way (is_label_lem r) → Holds w b (mention r s p address ∷ seen)
+            by : Way (is_label r) → Holds w b (mention r s p address ∷ seen)
             by (holds l) =
                 let y : AddsLabel a b (label_symbol p n (cond (is_definition r) address pending)) =
                 subst (λ (z : Bool). cond z (AddsLabel a b (label_symbol p n (cond (is_definition r) address pending))) (AddsCell a b (cell_symbol Variable p n a.celled) (pos 0))) l x in
@@ -248,7 +248,7 @@ module _ (w : Words) (a : Table) (seen : List Mention) (h : Holds w a seen) (s :
   abbrev the_key : Key
   the_key = number_key (word w s)
 
-  pub number_old : (i : ℕ) → i < size a → is_valued_lem a.cells.now v (get_or a.symbols.now i blank) ≡ true → Taken w a seen (mention number_use s p address) i
+  pub number_old : (i : ℕ) → i < size a → is_valued a.cells.now v (get_or a.symbols.now i blank) ≡ true → Taken w a seen (mention number_use s p address) i
   number_old i l e =
       let k : key_of w (the w a seen h i) ≡ the_key = number_found w a seen h v i l e ∙ ap number_key (sym valued) in
       let kn : known w the_key uses ≡ true = ap (λ x. known w x uses) (sym k) ∙ (the_first w a seen h i l).is_known in
@@ -259,7 +259,7 @@ module _ (w : Words) (a : Table) (seen : List Mention) (h : Holds w a seen) (s :
         is_index = sym (ap (λ b. cond b (index w the_key uses) (cells w uses + labels w uses)) kn ∙ ap (λ x. index w x uses) (sym k) ∙ (the_first w a seen h i l).at_index);
       }
 
-  module _ (missing : (i : ℕ) → i < size a → is_valued_lem a.cells.now v (get_or a.symbols.now i blank) ≡ false) where
+  module _ (missing : (i : ℕ) → i < size a → is_valued a.cells.now v (get_or a.symbols.now i blank) ≡ false) where
     unknown : known w the_key uses ≡ false
     unknown = ap (λ x. known w (number_key x) uses) valued ∙ no_number_key w a seen h v missing
 
@@ -322,16 +322,16 @@ module _ (a b : Table) where
   }
 
   pub keeps_name : (r : Role) (p n address : ℕ) → AddsName a b r p n address → Keeps a b
-  keeps_name r p n address x = by (way (is_label_lem r))
+  keeps_name r p n address x = by (way (is_label r))
     where
-      by : Way (is_label_lem r) → Keeps a b
+      by : Way (is_label r) → Keeps a b
       by (holds l) = keeps_label _ (subst (λ (z : Bool). cond z (AddsLabel a b (label_symbol p n (cond (is_definition r) address pending))) (AddsCell a b (cell_symbol Variable p n a.celled) (pos 0))) l x)
       by (fails l) = keeps_cell _ (pos 0) (subst (λ (z : Bool). cond z (AddsLabel a b (label_symbol p n (cond (is_definition r) address pending))) (AddsCell a b (cell_symbol Variable p n a.celled) (pos 0))) l x)
 
   pub name_size : (r : Role) (p n address : ℕ) → AddsName a b r p n address → size b ≡ size a + 1
-  name_size r p n address x = by (way (is_label_lem r))
+  name_size r p n address x = by (way (is_label r))
     where
-      by : Way (is_label_lem r) → size b ≡ size a + 1
+      by : Way (is_label r) → size b ≡ size a + 1
       by (holds l) =
           let y = subst (λ (z : Bool). cond z (AddsLabel a b (label_symbol p n (cond (is_definition r) address pending))) (AddsCell a b (cell_symbol Variable p n a.celled) (pos 0))) l x in
           omega (arith, y.celled_are, y.labels_are)

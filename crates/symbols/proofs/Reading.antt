@@ -2,7 +2,7 @@
 use Rattle.std.proofs.Common.{◌≡◌, ℕ, zero, suc, ◌+◌, ◌<◌, Bool, true, false, cond, not, ◌&&◌, eqb, ◌⊎◌, List, [], ◌∷◌, ◌++◌, length, get_or, sym, refl, ap, ◌∙◌, subst, inl, inr, arith}
 use mathlib.Core.Option.{Option, none, some}
 use Rattle.arithmetic.specs.Words.{Words}
-use Rattle.limits.specs.Uses.{Role, definition, target, listed, variable_use, number_use, Use, made, In, is_definition, is_label_lem, Key, label_key, variable_key, number_key, key_by, key, known}
+use Rattle.limits.specs.Uses.{Role, definition, target, listed, variable_use, number_use, Use, made, In, is_definition, is_label, Key, label_key, variable_key, number_key, key_by, key, known}
 use Rattle.limits.specs.Rules.{Refused}
 use Rattle.limits.specs.Refusals.{among, or_else, refused, unmet}
 use Rattle.limits.specs.Symbols.{Kind, variable_kind, number_kind, label_kind, kind_of, first_cell, cells_before}
@@ -10,7 +10,7 @@ use Rattle.limits.proofs.Keys.{Way, holds, fails, way, known_complete}
 use Rattle.symbols.specs.declared.table.Table.{Table}
 use Rattle.symbols.specs.Entries.{Symbol, blank, entry, kind_entry}
 use Rattle.symbols.specs.Mentions.{Mention, uses_of, pending, address_in, index, earliest_unmet}
-use Rattle.symbols.specs.Table.{size, Holds, Describes, is_pending_lem}
+use Rattle.symbols.specs.Table.{size, Holds, Describes, is_pending}
 use Rattle.symbols.proofs.Firsts.{First, no_first, entered, key_of, firsts, firsts_old, firsts_new, first_at, Has, has_first}
 use Rattle.symbols.proofs.Exact.{in_cases, pending_none, placed_below}
 use Rattle.symbols.proofs.Finding.{the, firsts_size, entry_at, the_first, label_role}
@@ -34,7 +34,7 @@ at_by address n (label_key x) = address x
 at_by address n (variable_key x) = n
 at_by address n (number_key v) = n
 
-at_is : (w : Words) (address : List ℕ → ℕ) (n : ℕ) (r : Role) (s : List ℕ) → cond (is_label_lem r) (address s) n ≡ at_by address n (key_by w r s)
+at_is : (w : Words) (address : List ℕ → ℕ) (n : ℕ) (r : Role) (s : List ℕ) → cond (is_label r) (address s) n ≡ at_by address n (key_by w r s)
 at_is w address n definition s = refl
 at_is w address n target s = refl
 at_is w address n listed s = refl
@@ -43,7 +43,7 @@ at_is w address n number_use s = refl
 
 -- a label without a definition
 abbrev bad : List Use → Use → Bool
-bad us u = is_label_lem u.role && not (among is_definition u.spelling us)
+bad us u = is_label u.role && not (among is_definition u.spelling us)
 
 abbrev bad_by : List Use → Key → Bool
 bad_by us (label_key x) = not (among is_definition x us)
@@ -101,10 +101,10 @@ module _ (w : Words) (t : Table) (seen : List Mention) (h : Holds w t seen) wher
     abbrev s : List ℕ
     s = f.mention.used.spelling
 
-    pub pending_is : is_pending_lem (get_or t.symbols.now i blank) ≡ bad (uses_of seen) (the w t seen h i).mention.used
-    pending_is = ap is_pending_lem (entry_at w t seen h i l) ∙ by (way (is_label_lem q)) (way (among is_definition s (uses_of seen)))
+    pub pending_is : is_pending (get_or t.symbols.now i blank) ≡ bad (uses_of seen) (the w t seen h i).mention.used
+    pending_is = ap is_pending (entry_at w t seen h i l) ∙ by (way (is_label q)) (way (among is_definition s (uses_of seen)))
       where
-        by : Way (is_label_lem q) → Way (among is_definition s (uses_of seen)) → is_pending_lem (entry (entered (address_in seen) f)) ≡ (is_label_lem q && not (among is_definition s (uses_of seen)))
+        by : Way (is_label q) → Way (among is_definition s (uses_of seen)) → is_pending (entry (entered (address_in seen) f)) ≡ (is_label q && not (among is_definition s (uses_of seen)))
         by (fails e) m = (λ j. (label_role q ∙ e) j && eqb (entered (address_in seen) f).at pending) ∙ sym (λ j. e j && not (among is_definition s (uses_of seen)))
         by (holds e) (holds m) =
             (λ j. (label_role q ∙ e) j && eqb (cond (e j) (address_in seen s) (first_cell + f.before)) pending)
@@ -182,12 +182,12 @@ module _ (us : List Use) where
       ap (λ x. or_else x (scan fs)) a ∙ scan_some fs i (omega arith) b (λ k m. e (suc k) (omega arith))
 
 module _ (w : Words) (t : Table) (seen : List Mention) (h : Holds w t seen) where
-  pub none_pending : ((i : ℕ) → i < size t → is_pending_lem (get_or t.symbols.now i blank) ≡ false) → none ≡ earliest_unmet (uses_of seen) seen
+  pub none_pending : ((i : ℕ) → i < size t → is_pending (get_or t.symbols.now i blank) ≡ false) → none ≡ earliest_unmet (uses_of seen) seen
   none_pending e =
       sym (earliest_is (uses_of seen) w seen ∙ scan_none (uses_of seen) (firsts w seen) (λ i l.
       (let m : i < size t = omega (arith, firsts_size w t seen h) in sym (pending_is w t seen h i m) ∙ e i m)))
 
-  pub some_pending : (i : ℕ) → i < size t → is_pending_lem (get_or t.symbols.now i blank) ≡ true → ((k : ℕ) → k < i → is_pending_lem (get_or t.symbols.now k blank) ≡ false) →
+  pub some_pending : (i : ℕ) → i < size t → is_pending (get_or t.symbols.now i blank) ≡ true → ((k : ℕ) → k < i → is_pending (get_or t.symbols.now k blank) ≡ false) →
       some (record { number = 12; place = (get_or t.symbols.now i blank).place }) ≡ earliest_unmet (uses_of seen) seen
   some_pending i l b e =
       ap (λ (s : Symbol). some (record { number = 12; place = s.place })) (entry_at w t seen h i l)

@@ -8,7 +8,7 @@ use Rattle.std.proofs.lemmas.Bool.{leb-false, and_parts, and_from}
 use Rattle.token.specs.Tokens.{Token, Placed}
 use Rattle.trees.specs.Trees.{Name}
 use Rattle.arithmetic.specs.Words.{Words}
-use Rattle.limits.specs.Uses.{Use, In, at_head, in_tail, use_of, use_at, with_use, uses_before, is_definition, is_label_lem, Key, key, known, count_if, cells, labels}
+use Rattle.limits.specs.Uses.{Use, In, at_head, in_tail, use_of, use_at, with_use, uses_before, is_definition, is_label, Key, key, known, count_if, cells, labels}
 use Rattle.limits.specs.Rules.{cell_limit, label_limit, tokens_of, Refused}
 use Rattle.limits.specs.Refusals.{lowest, or_else, among, refused, unmet, limit_checks_at, limit_checks, first_unmet}
 use Rattle.limits.specs.Symbols.{Symbol, symbol, entered, symbols_after, symbols, kind_of, first_cell, cells_before}
@@ -89,17 +89,17 @@ pub lowest_is : (w : Words) (past rest : List Token) →
 lowest_is w past rest = lowest_at w past rest (uses_before past rest) (use_at past rest)
 
 -- addresses matter only for labels
-pub agree : (w : Words) (f g : Name → ℕ) (seen : List Mention) → ((m : Mention) → In m seen → is_label_lem m.used.role ≡ true → f m.used.spelling ≡ g m.used.spelling) →
+pub agree : (w : Words) (f g : Name → ℕ) (seen : List Mention) → ((m : Mention) → In m seen → is_label m.used.role ≡ true → f m.used.spelling ≡ g m.used.spelling) →
     entries w f seen ≡ entries w g seen
 agree w f g [] e = refl
 agree w f g (m ∷ seen) e = go (agree w f g seen (λ v i l. e v (in_tail i) l))
   where
-    at_same : Way (is_label_lem m.used.role) → cond (is_label_lem m.used.role) (f m.used.spelling) (first_cell + cells w (uses_of seen)) ≡ cond (is_label_lem m.used.role) (g m.used.spelling) (first_cell + cells w (uses_of seen))
-    at_same (holds l) = ap (λ x. cond (is_label_lem m.used.role) x (first_cell + cells w (uses_of seen))) (e m at_head l)
+    at_same : Way (is_label m.used.role) → cond (is_label m.used.role) (f m.used.spelling) (first_cell + cells w (uses_of seen)) ≡ cond (is_label m.used.role) (g m.used.spelling) (first_cell + cells w (uses_of seen))
+    at_same (holds l) = ap (λ x. cond (is_label m.used.role) x (first_cell + cells w (uses_of seen))) (e m at_head l)
     at_same (fails l) = (λ i. cond (l i) (f m.used.spelling) (first_cell + cells w (uses_of seen))) ∙ sym (λ i. cond (l i) (g m.used.spelling) (first_cell + cells w (uses_of seen)))
 
     same : symbol w f (uses_of seen) m.place m.used ≡ symbol w g (uses_of seen) m.place m.used
-    same = ap (λ n. record { kind = kind_of m.used.role; place = m.place; length = length m.used.spelling; at = n }) (at_same (way (is_label_lem m.used.role)))
+    same = ap (λ n. record { kind = kind_of m.used.role; place = m.place; length = length m.used.spelling; at = n }) (at_same (way (is_label m.used.role)))
 
     go : entries w f seen ≡ entries w g seen → entries w f (m ∷ seen) ≡ entries w g (m ∷ seen)
     go r = (λ i. cond (known w (key w m.used) (uses_of seen)) (r i) (r i ++ (same i ∷ [])))
@@ -117,8 +117,8 @@ module _ (w : Words) where
       let ih = few_both us a.1 in
       let r = u.role in
       let s = u.spelling in (
-        stays (not (is_label_lem r)) (not (known w (key w u) us)) (cells w us) cell_limit (seven_fails (is_long_lem w r s) (is_second w us r s) (is_other w us r s) (no_cell_left w us r s) (no_label_left w us r s) a.0) ih.0,
-        stays (is_label_lem r) (not (known w (key w u) us)) (labels w us) label_limit (eight_fails (is_long_lem w r s) (is_second w us r s) (is_other w us r s) (no_cell_left w us r s) (no_label_left w us r s) a.0) ih.1,
+        stays (not (is_label r)) (not (known w (key w u) us)) (cells w us) cell_limit (seven_fails (is_long_lem w r s) (is_second w us r s) (is_other w us r s) (no_cell_left w us r s) (no_label_left w us r s) a.0) ih.0,
+        stays (is_label r) (not (known w (key w u) us)) (labels w us) label_limit (eight_fails (is_long_lem w r s) (is_second w us r s) (is_other w us r s) (no_cell_left w us r s) (no_label_left w us r s) a.0) ih.1,
       )
 
   entries_count : (address : Name → ℕ) (seen : List Mention) → length (entries w address seen) ≡ count w (uses_of seen)
@@ -170,8 +170,8 @@ module _ (w : Words) where
               ap (λ z. among is_definition z (uses_of seen)) (sym (same_bytes_sound _ _ x.1)) ∙ among_complete is_definition m.used.role m.used.spelling (uses_of seen) (use_in seen m j) d in
               absurd (clash (and_from (is_definition r) (among is_definition t (uses_of seen)) x.0 again) five)
 
-pub is_pending_lem : (text : List ℕ) (seen : List Mention) (x : Name) → AllSound text seen → (address_in seen x ≡ pending) ↔ (among is_definition x (uses_of seen) ≡ false)
-is_pending_lem text seen x a = (λ e. by e (way (among is_definition x (uses_of seen))), λ e. pending_none seen x e)
+pub is_pending : (text : List ℕ) (seen : List Mention) (x : Name) → AllSound text seen → (address_in seen x ≡ pending) ↔ (among is_definition x (uses_of seen) ≡ false)
+is_pending text seen x a = (λ e. by e (way (among is_definition x (uses_of seen))), λ e. pending_none seen x e)
   where
     by : address_in seen x ≡ pending → Way (among is_definition x (uses_of seen)) → among is_definition x (uses_of seen) ≡ false
     by e (fails m) = m

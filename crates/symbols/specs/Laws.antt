@@ -7,7 +7,7 @@ use Rattle.token.specs.Tokens.{Token, keyword, sign, Placed}
 use Rattle.trees.specs.Trees.{Name}
 use Rattle.arithmetic.specs.Words.{Words}
 use Rattle.grammar.specs.Tests.{is}
-use Rattle.limits.specs.Uses.{Use, In, use_at, uses_before, is_definition, is_listed_lem, is_label_lem, Key, known, cells, is_operator, operators, depth, parts, names}
+use Rattle.limits.specs.Uses.{Use, In, use_at, uses_before, is_definition, is_listed, is_label, Key, known, cells, is_operator, operators, depth, parts, names}
 use Rattle.limits.specs.Rules.{operator_limit, depth_limit, list_limit, here, tokens_of}
 use Rattle.limits.specs.Refusals.{Check, check, lowest, or_else, among, used_so, limit_checks, first_unmet}
 use Rattle.limits.specs.Symbols.{first_cell, cells_before, symbols}
@@ -27,7 +27,7 @@ form_checks_at past rest u =
     check 9 (here is_operator rest && nat_le operator_limit (operators past))
     ∷ check 10 (here (is (sign Open)) rest && nat_le depth_limit (depth past))
     ∷ check 10 (here (is (keyword If)) rest && nat_le depth_limit (length (parts past)))
-    ∷ check 11 (used_so (λ r s. is_listed_lem r && nat_le list_limit (names past)) u)
+    ∷ check 11 (used_so (λ r s. is_listed r && nat_le list_limit (names past)) u)
     ∷ []
 
 abbrev pub form_checks : List Token → List Token → List Check
@@ -46,7 +46,7 @@ pub record OfTokens : Type 0 where
   pub earliest : (us : List Use) (at : List Token → ℕ) (ts : List Placed) → earliest_unmet us (mentions_before at (reverse ts) []) ≡ first_unmet us [] ts
   -- a table that holds all tokens has their symbols, with the addresses that the labels were given
   pub table : (w : Words) (at : List Token → ℕ) (ts : List Placed) (t : Table) (address : Name → ℕ) → Holds w t (mentions_before at (reverse ts) []) →
-      ((m : Mention) → In m (mentions_before at (reverse ts) []) → is_label_lem m.used.role ≡ true →
+      ((m : Mention) → In m (mentions_before at (reverse ts) []) → is_label m.used.role ≡ true →
       address_in (mentions_before at (reverse ts) []) m.used.spelling ≡ address m.used.spelling) →
       take (size t) t.symbols.now ≡ map entry (symbols w address ts)
 
@@ -66,7 +66,7 @@ pub record OfUses : Type 0 where
   pub placed : (w : Words) (seen : List Mention) (m : Mention) → Accepted w (uses_of seen) → In m seen → is_definition m.used.role ≡ true →
       address_in seen m.used.spelling ≡ m.address
   -- a label is pending exactly if it stands before no command
-  pub is_pending_lem : (text : List ℕ) (seen : List Mention) (x : Name) → AllSound text seen → (address_in seen x ≡ pending) ↔ (among is_definition x (uses_of seen) ≡ false)
+  pub is_pending : (text : List ℕ) (seen : List Mention) (x : Name) → AllSound text seen → (address_in seen x ≡ pending) ↔ (among is_definition x (uses_of seen) ≡ false)
 
 -- What calls keep, they keep in a row.
 pub record Kept : Type 0 where

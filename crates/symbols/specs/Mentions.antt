@@ -6,7 +6,7 @@ use Rattle.token.specs.Tokens.{Token, Placed}
 use Rattle.token.specs.Numbers.{word}
 use Rattle.trees.specs.Trees.{Name}
 use Rattle.arithmetic.specs.Words.{Words}
-use Rattle.limits.specs.Uses.{Use, use_of, is_literal, is_definition, is_label_lem, Key, key, known, cells, labels}
+use Rattle.limits.specs.Uses.{Use, use_of, is_literal, is_definition, is_label, Key, key, known, cells, labels}
 use Rattle.limits.specs.Rules.{name_limit, cell_limit, label_limit, tokens_of, Refused}
 use Rattle.limits.specs.Refusals.{Check, check, lowest, among, differ, or_else, refused, unmet}
 use Rattle.limits.specs.Symbols.{Symbol, symbol}
@@ -62,7 +62,7 @@ module _ (w : Words) where
   -- what the cells of variables and numbers hold
   abbrev pub contents : List Use → List ℤ
   contents [] = []
-  contents (u ∷ us) = cond (not (is_label_lem u.role) && not (known w (key w u) us)) (contents us ++ (initial u ∷ [])) (contents us)
+  contents (u ∷ us) = cond (not (is_label u.role) && not (known w (key w u) us)) (contents us ++ (initial u ∷ [])) (contents us)
 
   -- the refusals 4 to 8 at the use u, after the uses us
   abbrev pub use_checks : List Use → Use → List Check
@@ -70,8 +70,8 @@ module _ (w : Words) where
       check 4 (not (is_literal u.role) && nat_lt name_limit (length u.spelling))
       ∷ check 5 (is_definition u.role && among is_definition u.spelling us)
       ∷ check 6 (among (differ u.role) u.spelling us)
-      ∷ check 7 (not (is_label_lem u.role) && (not (known w (key w u) us) && nat_le cell_limit (cells w us)))
-      ∷ check 8 (is_label_lem u.role && (not (known w (key w u) us) && nat_le label_limit (labels w us)))
+      ∷ check 7 (not (is_label u.role) && (not (known w (key w u) us) && nat_le cell_limit (cells w us)))
+      ∷ check 8 (is_label u.role && (not (known w (key w u) us) && nat_le label_limit (labels w us)))
       ∷ []
 
   -- the lowest that stands

@@ -9,7 +9,7 @@ use Rattle.fault.specs.declared.Fault.{Fault}
 use Rattle.fault.specs.declared.Refusal.{Refusal}
 use Rattle.fault.specs.declared.Refusal.TheVariants.{NoProgram, DuplicateLabel, MixedKind, TooManyCells, TooManyLabels}
 use Rattle.fault.specs.Refusals.{numbered}
-use Rattle.limits.specs.Uses.{Role, number_use, Use, made, In, is_definition, is_label_lem, same_word, key, cells, labels}
+use Rattle.limits.specs.Uses.{Role, number_use, Use, made, In, is_definition, is_label, same_word, key, cells, labels}
 use Rattle.limits.specs.Rules.{cell_limit, label_limit, Refused}
 use Rattle.limits.specs.Refusals.{unlike}
 use Rattle.limits.specs.Symbols.{first_cell, kind_of, cells_before}
@@ -103,7 +103,7 @@ Fresh t = (w : Words) → most_symbols ≤ length t.symbols.now → most_cells �
 -- an entry says what a use means: its kind, and its cell or its address
 pub record Describes (w : Words) (seen : List Mention) (u : Use) (e : Symbol) : Type 0 where
   pub kind_is : e.kind ≡ kind_entry (kind_of u.role)
-  pub at_is : e.at ≡ cond (is_label_lem u.role) (address_in seen u.spelling) (first_cell + cells_before w (key w u) (uses_of seen))
+  pub at_is : e.at ≡ cond (is_label u.role) (address_in seen u.spelling) (first_cell + cells_before w (key w u) (uses_of seen))
 
 -- the entry at an index, if it is in use; at the index of a use's symbol it describes the use
 abbrev pub EntryRead : Table → ℕ → Option Symbol → Type 0
@@ -129,17 +129,17 @@ UnmetRead t x = (w : Words) (seen : List Mention) → Holds w t seen → refused
 -- Look-ups.
 
 -- an entry of a variable or a label
-abbrev pub has_name_lem : Kind → Bool
-has_name_lem Blank = false
-has_name_lem Variable = true
-has_name_lem Number = false
-has_name_lem Label = true
+abbrev pub has_name : Kind → Bool
+has_name Blank = false
+has_name Variable = true
+has_name Number = false
+has_name Label = true
 
-abbrev pub of_label_lem : Kind → Bool
-of_label_lem Blank = false
-of_label_lem Variable = false
-of_label_lem Number = false
-of_label_lem Label = true
+abbrev pub of_label : Kind → Bool
+of_label Blank = false
+of_label Variable = false
+of_label Number = false
+of_label Label = true
 
 abbrev pub of_number : Kind → Bool
 of_number Blank = false
@@ -148,16 +148,16 @@ of_number Number = true
 of_number Label = false
 
 -- the entry has the name that stands at a place
-abbrev pub is_named_lem : List ℕ → ℕ → ℕ → Symbol → Bool
-is_named_lem text place n s = has_name_lem s.kind && (s.length == n && bytes_eq (part text s.place s.length) (part text place n))
+abbrev pub is_named : List ℕ → ℕ → ℕ → Symbol → Bool
+is_named text place n s = has_name s.kind && (s.length == n && bytes_eq (part text s.place s.length) (part text place n))
 
 -- the entry is that of a number whose cell holds the word
-abbrev pub is_valued_lem : List ℤ → ℤ → Symbol → Bool
-is_valued_lem cells v s = of_number s.kind && (nat_lt s.at (length cells) && same_word (slice_index_or cells s.at (pos 0)) v)
+abbrev pub is_valued : List ℤ → ℤ → Symbol → Bool
+is_valued cells v s = of_number s.kind && (nat_lt s.at (length cells) && same_word (slice_index_or cells s.at (pos 0)) v)
 
 -- a label that stands before no command yet
-abbrev pub is_pending_lem : Symbol → Bool
-is_pending_lem s = of_label_lem s.kind && s.at == pending
+abbrev pub is_pending : Symbol → Bool
+is_pending s = of_label s.kind && s.at == pending
 
 -- one of the first n entries passes a test, or none does
 abbrev pub Found : (Symbol → Bool) → List Symbol → ℕ → Option ℕ → Type 0
@@ -167,18 +167,18 @@ Found test xs n (Some i) = (i < n) × (test (slice_index_or xs i blank) ≡ true
 -- Refusals, by what is found.
 
 -- of a name that has the entry s
-abbrev pub known_refusal_lem : Role → Symbol → Option Refusal
-known_refusal_lem r s =
-    cond (is_definition r && (of_label_lem s.kind && not (s.at == pending))) (Some DuplicateLabel)
-    (cond (unlike (is_label_lem r) (of_label_lem s.kind)) (Some MixedKind) None)
+abbrev pub known_refusal : Role → Symbol → Option Refusal
+known_refusal r s =
+    cond (is_definition r && (of_label s.kind && not (s.at == pending))) (Some DuplicateLabel)
+    (cond (unlike (is_label r) (of_label s.kind)) (Some MixedKind) None)
 
 -- of a name that has none, with so many cells and labels in use
-abbrev pub room_refusal_lem : Role → ℕ → ℕ → Option Refusal
-room_refusal_lem r c l = cond (is_label_lem r) (cond (nat_le label_limit l) (Some TooManyLabels) None) (cond (nat_le cell_limit c) (Some TooManyCells) None)
+abbrev pub room_refusal : Role → ℕ → ℕ → Option Refusal
+room_refusal r c l = cond (is_label r) (cond (nat_le label_limit l) (Some TooManyLabels) None) (cond (nat_le cell_limit c) (Some TooManyCells) None)
 
 -- there is no memory for one symbol more, a label or one with a cell
-abbrev pub is_short_lem : Bool → Table → Bool
-is_short_lem label t = nat_le (length t.symbols.now) (size t) || (not label && nat_le (length t.cells.now) (first_cell + t.celled))
+abbrev pub is_short : Bool → Table → Bool
+is_short label t = nat_le (length t.symbols.now) (size t) || (not label && nat_le (length t.cells.now) (first_cell + t.celled))
 
 -- Changes.
 
@@ -213,4 +213,4 @@ PlacesLabel a b i address = Becomes a b (slice_set a.symbols.now i (moved_to add
 
 -- a new name
 abbrev pub AddsName : Table → Table → Role → ℕ → ℕ → ℕ → Type 0
-AddsName a b r p n address = cond (is_label_lem r) (AddsLabel a b (label_symbol p n (cond (is_definition r) address pending))) (AddsCell a b (cell_symbol Variable p n a.celled) (pos 0))
+AddsName a b r p n address = cond (is_label r) (AddsLabel a b (label_symbol p n (cond (is_definition r) address pending))) (AddsCell a b (cell_symbol Variable p n a.celled) (pos 0))

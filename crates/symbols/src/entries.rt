@@ -1,10 +1,10 @@
 // What an entry says of a name, and which refusal stands at a name, by its entry.
 ghost use Rattle.std.specs.Prelude.{◌≡◌, ◌+◌, ◌<◌, true, false, ◌&&◌, nat_le, nat_lt};
 ghost use Rattle.std.specs.Str.{bytes_eq};
-ghost use Rattle.limits.specs.Uses.{is_definition, is_label_lem};
+ghost use Rattle.limits.specs.Uses.{is_definition, is_label};
 ghost use Rattle.limits.specs.Rules.{name_limit, cell_limit};
 ghost use Rattle.symbols.specs.Entries.{meant, part};
-ghost use Rattle.symbols.specs.Table.{has_name_lem, of_label_lem, of_number, is_named_lem, is_pending_lem, known_refusal_lem, room_refusal_lem};
+ghost use Rattle.symbols.specs.Table.{has_name, of_label, of_number, is_named, is_pending, known_refusal, room_refusal};
 
 use crate::kinds::{Kind, Role, Symbol};
 use fault::Refusal;
@@ -38,7 +38,7 @@ pub fn defines(role: Role) -> bool
 
 // Whether a name is used as a label.
 pub fn names_label(role: Role) -> bool
-    ensures { result ≡ is_label_lem (meant role) }
+    ensures { result ≡ is_label (meant role) }
 {
     match role {
         Role::Variable => false,
@@ -48,7 +48,7 @@ pub fn names_label(role: Role) -> bool
 
 // Whether an entry of this kind has a name: it is that of a variable or a label.
 pub fn has_name(kind: Kind) -> bool
-    ensures { result ≡ has_name_lem kind }
+    ensures { result ≡ has_name kind }
 {
     match kind {
         Kind::Variable | Kind::Label => true,
@@ -58,7 +58,7 @@ pub fn has_name(kind: Kind) -> bool
 
 // Whether an entry of this kind is that of a label.
 pub fn of_label(kind: Kind) -> bool
-    ensures { result ≡ of_label_lem kind }
+    ensures { result ≡ of_label kind }
 {
     match kind {
         Kind::Label => true,
@@ -107,7 +107,7 @@ pub fn same(a: &[u8], b: &[u8]) -> bool
 
 // Whether an entry has the name that stands at a place. Kind and length are compared before the bytes.
 pub fn is_named(text: &[u8], place: u16, length: u16, s: Symbol) -> bool
-    ensures { result ≡ is_named_lem text.now place length s }
+    ensures { result ≡ is_named text.now place length s }
 {
     if !has_name(s.kind) || s.length != length {
         return false;
@@ -120,7 +120,7 @@ pub fn is_named(text: &[u8], place: u16, length: u16, s: Symbol) -> bool
 
 // The refusal of a name that has an entry.
 pub fn known_refusal(role: Role, s: Symbol) -> Option<Refusal>
-    ensures { result ≡ known_refusal_lem (meant role) s }
+    ensures { result ≡ known_refusal (meant role) s }
 {
     let label = of_label(s.kind);
     if defines(role) && label && s.at != PENDING {
@@ -134,7 +134,7 @@ pub fn known_refusal(role: Role, s: Symbol) -> Option<Refusal>
 
 // The refusal of a name that has none.
 pub fn room_refusal(role: Role, celled: u16, labels: u16) -> Option<Refusal>
-    ensures { result ≡ room_refusal_lem (meant role) celled labels }
+    ensures { result ≡ room_refusal (meant role) celled labels }
 {
     if names_label(role) {
         if labels >= LABELS {
@@ -150,7 +150,7 @@ pub fn room_refusal(role: Role, celled: u16, labels: u16) -> Option<Refusal>
 
 // Whether an entry is that of a label that stands before no command yet.
 pub fn is_pending(s: Symbol) -> bool
-    ensures { result ≡ is_pending_lem s }
+    ensures { result ≡ is_pending s }
 {
     of_label(s.kind) && s.at == PENDING
 }

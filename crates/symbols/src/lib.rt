@@ -3,11 +3,11 @@
 #![tactic(auto)]
 
 ghost use Rattle.std.specs.Prelude.{◌≡◌, ◌+◌, ◌<◌, true, false, ◌&&◌, Some, None};
-ghost use Rattle.limits.specs.Uses.{is_label_lem};
+ghost use Rattle.limits.specs.Uses.{is_label};
 ghost use Rattle.limits.specs.Rules.{cell_limit, label_limit};
 ghost use Rattle.limits.specs.Symbols.{first_cell};
 ghost use Rattle.symbols.specs.Entries.{meant};
-ghost use Rattle.symbols.specs.Table.{size, is_named_lem, is_valued_lem, is_short_lem, room_refusal_lem, Found, Keeps, Answers, NameTold, DigitsTold, NoDigitsTold, NumberTold, Fresh, EntryRead, UseRead, UnmetRead, AddsCell, AddsLabel, AddsName, PlacesLabel, cell_symbol, label_symbol};
+ghost use Rattle.symbols.specs.Table.{size, is_named, is_valued, is_short, room_refusal, Found, Keeps, Answers, NameTold, DigitsTold, NoDigitsTold, NumberTold, Fresh, EntryRead, UseRead, UnmetRead, AddsCell, AddsLabel, AddsName, PlacesLabel, cell_symbol, label_symbol};
 
 mod entries;
 pub mod kinds;
@@ -169,7 +169,7 @@ impl<'s, 'c, 't> Table<'s, 'c, 't> {
 
     // The entry of the name that stands at a place.
     fn find_name(&self, place: u16, length: u16) -> Option<u16>
-        ensures { Found (is_named_lem self.now.text.now place length) self.now.symbols.now (size self.now) result }
+        ensures { Found (is_named self.now.text.now place length) self.now.symbols.now (size self.now) result }
     {
         for i in 0..self.len() {
             if is_named(self.text, place, length, self.symbols[i as usize]) {
@@ -181,7 +181,7 @@ impl<'s, 'c, 't> Table<'s, 'c, 't> {
 
     // Whether an entry is that of a number whose cell holds a word.
     fn is_valued(&self, word: i32, s: Symbol) -> bool
-        ensures { result ≡ is_valued_lem self.now.cells.now word s }
+        ensures { result ≡ is_valued self.now.cells.now word s }
     {
         let at = s.at as usize;
         if !of_number(s.kind) || at >= self.cells.len() {
@@ -192,7 +192,7 @@ impl<'s, 'c, 't> Table<'s, 'c, 't> {
 
     // The entry of a number, by its word.
     fn find_number(&self, word: i32) -> Option<u16>
-        ensures { Found (is_valued_lem self.now.cells.now word) self.now.symbols.now (size self.now) result }
+        ensures { Found (is_valued self.now.cells.now word) self.now.symbols.now (size self.now) result }
     {
         for i in 0..self.len() {
             if self.is_valued(word, self.symbols[i as usize]) {
@@ -204,7 +204,7 @@ impl<'s, 'c, 't> Table<'s, 'c, 't> {
 
     // Whether memory lacks for one symbol more, a label or one with a cell.
     fn is_short(&self, label: bool) -> bool
-        ensures { result ≡ is_short_lem label self.now }
+        ensures { result ≡ is_short label self.now }
     {
         if self.len() as usize >= self.symbols.len() {
             return true;
@@ -215,7 +215,7 @@ impl<'s, 'c, 't> Table<'s, 'c, 't> {
     // Enters a symbol that has a cell, with what the cell holds at first.
     fn add_cell(&mut self, kind: Kind, place: u16, length: u16, word: i32) -> u16
         requires few { self.old.celled < cell_limit }
-        requires room { is_short_lem false self.old ≡ false }
+        requires room { is_short false self.old ≡ false }
         ensures index { result ≡ size self.old }
         ensures after { AddsCell self.old self.new (cell_symbol kind place length self.old.celled) word }
     {
@@ -235,7 +235,7 @@ impl<'s, 'c, 't> Table<'s, 'c, 't> {
     // Enters a label, at an address.
     fn add_label(&mut self, place: u16, length: u16, at: u16) -> u16
         requires few { self.old.labels < label_limit }
-        requires room { is_short_lem true self.old ≡ false }
+        requires room { is_short true self.old ≡ false }
         ensures index { result ≡ size self.old }
         ensures after { AddsLabel self.old self.new (label_symbol place length at) }
     {
@@ -252,8 +252,8 @@ impl<'s, 'c, 't> Table<'s, 'c, 't> {
 
     // Enters a name that has no entry.
     fn add_name(&mut self, role: Role, place: u16, length: u16, address: u16) -> u16
-        requires few { room_refusal_lem (meant role) self.old.celled self.old.labels ≡ None }
-        requires room { is_short_lem (is_label_lem (meant role)) self.old ≡ false }
+        requires few { room_refusal (meant role) self.old.celled self.old.labels ≡ None }
+        requires room { is_short (is_label (meant role)) self.old ≡ false }
         ensures index { result ≡ size self.old }
         ensures after { AddsName self.old self.new (meant role) place length address }
     {
