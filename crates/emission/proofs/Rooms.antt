@@ -22,7 +22,8 @@ use Rattle.emission.specs.Table.{Translator, translated}
 use Rattle.emission.specs.Room.{Sized, Within}
 use Rattle.emission.proofs.Works.{with_expr, before_term, before_factor}
 use Rattle.emission.proofs.Image.{work_of, returns_in, returns_of, image}
-use Rattle.emission.proofs.Pasts.{past_c, past_t, past_f, past_e, past_of, reached, mul_parts, add_parts, relation_parts, factor_parts, term_parts, sum_parts, names_parts, sums_parts, if_parts, statement_parts, past_f_parts}
+use Rattle.limits.proofs.Pasts.{past_c, past_t, past_f, past_e, past_of, mul_parts, add_parts, relation_parts, factor_parts, term_parts, sum_parts, names_parts, sums_parts, if_parts, statement_parts, past_f_parts}
+use Rattle.emission.proofs.Pasts.{reached}
 
 -- Operators of the tokens of an expression.
 mul_count : (o : MulSign) (b : List Token) → operators (mul_sign o ∷ b) ≡ suc (operators b)

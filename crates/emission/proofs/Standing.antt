@@ -14,7 +14,8 @@ use Rattle.emission.specs.Classes.{state_number}
 use Rattle.emission.specs.Returns.{comes_back, AllBelow}
 use Rattle.emission.proofs.Stepping.{refused, left}
 use Rattle.emission.proofs.Image.{returns_in, returns_of, image}
-use Rattle.emission.proofs.Pasts.{past_of, reached}
+use Rattle.limits.proofs.Pasts.{past_of}
+use Rattle.emission.proofs.Pasts.{reached}
 use Rattle.emission.proofs.Rooms.{stack_c}
 
 -- no row of a state to return to is for a name or a number, and none at all for another byte

@@ -1,8 +1,9 @@
 -- The table by letters says what the rows say.
 use Rattle.emission.specs.declared.state.State.TheVariants as state
 use Rattle.emission.specs.declared.moves.Move.TheVariants.{Refuse}
-use Rattle.std.proofs.Common.{◌≡◌, ℕ, zero, suc, ◌-◌, ◌<◌, ◌≤◌, List, [], ◌∷◌, ◌++◌, map, length, get_or, sym, refl, ap, ◌∙◌, arith}
+use Rattle.std.proofs.Common.{◌≡◌, ℕ, zero, suc, ◌-◌, ◌<◌, ◌≤◌, List, [], ◌∷◌, ◌++◌, map, length, get_or, min, inl, inr, sym, refl, ap, ◌∙◌, arith}
 use Rattle.std.proofs.lemmas.List.{get_or-map, get_or_past}
+use Rattle.std.proofs.lemmas.Bool.{cases_lt}
 use Rattle.token.specs.Tokens.{Token, name, number, keyword, sign, other}
 use Rattle.token.specs.declared.kinds.Keyword.{Keyword}
 use Rattle.token.specs.declared.kinds.Keyword.TheVariants as keyword_of
@@ -80,7 +81,7 @@ class_at [] (suc c) = refl
 class_at (t ∷ ts) zero = refl
 class_at (t ∷ ts) (suc c) = class_at ts c
 
-pub entry_right : (s : State) (c : ℕ) → c < 26 → by_letter (get_or (get_or letters (state_number s) []) c 0) ≡ class_move s c
+entry_right : (s : State) (c : ℕ) → c < 26 → by_letter (get_or (get_or letters (state_number s) []) c 0) ≡ class_move s c
 unfolding row
 entry_right s c h =
     let l : c < length (row s) = omega (arith, row_length s) in
@@ -90,10 +91,18 @@ entry_right s c h =
     ∙ ap (move s) (class_at samples c)
 
 -- a class above 25 is as 25
-pub entry_past : (s : State) (c : ℕ) → 26 ≤ c → class_move s 25 ≡ class_move s c
-entry_past s c h =
-    let l : 25 ≤ c = omega arith in
-    ap (move s) (sym (get_or_past samples c (other 0) l))
+as_25 : (s : State) (c : ℕ) → class_move s (min c 25) ≡ class_move s c
+as_25 s c =
+    elim (cases_lt c 26) [
+      | inl h ↦ let m : min c 25 ≡ c = omega arith in ap (class_move s) m
+      | inr h ↦
+          let m : min c 25 ≡ 25 = omega arith in
+          let l : 25 ≤ c = omega arith in
+          ap (class_move s) m ∙ ap (move s) (sym (get_or_past samples c (other 0) l))
+    ]
+
+pub entry_at : (s : State) (c : ℕ) → by_letter (get_or (get_or letters (state_number s) []) (min c 25) 0) ≡ class_move s c
+entry_at s c = entry_right s (min c 25) (omega arith) ∙ as_25 s c
 
 -- A move depends on the token's class alone.
 any_name : (s : State) (n : List ℕ) → move s (name n) ≡ move s (name [])

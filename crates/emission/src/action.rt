@@ -1,5 +1,5 @@
 // What the translator does to a draft at a token, or when it leaves a state.
-#[derive(Clone, Copy, Drop)]
+#[derive(Clone, Copy, PartialEq, Eq, Debug)]
 pub enum Action {
     Nothing,
     // a label stands before a command

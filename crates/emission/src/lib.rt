@@ -14,72 +14,52 @@ pub mod state;
 pub mod table;
 
 // The translator ends exactly on programs, and has then made the code of the program's tree.
-pub fn emission_is_exact() -> u8
+pub fn emission_is_exact()
     ensures { Exact }
-{
-    0
-}
+{}
 
 // The translator takes and refuses the same tokens as the recogniser of the grammar.
-pub fn emission_follows_recogniser() -> u8
+pub fn emission_follows_recogniser()
     ensures { Follows }
-{
-    0
-}
+{}
 
 // The stacks need room for the operators, parentheses and IFs that the limits allow, and no more.
-pub fn stacks_suffice() -> u8
+pub fn stacks_suffice()
     ensures { Roomy }
-{
-    0
-}
+{}
 
 // Later tokens leave words and labels as they are, but for the jumps of open IFs, and never take a word away.
-pub fn emission_is_stable() -> u8
+pub fn emission_is_stable()
     ensures { Stable }
-{
-    0
-}
+{}
 
 // A step is what the table's entry for the state and the token says.
-pub fn entries_decide() -> u8
+pub fn entries_decide()
     ensures { Steps }
-{
-    0
-}
+{}
 
 // Between two tokens only states to return to stand below the current one, names and numbers are taken by the current state alone, and at
 // the start of a command the stack is as deep as IFs are open.
-pub fn states_stand() -> u8
+pub fn states_stand()
     ensures { Standing }
-{
-    0
-}
+{}
 
 // The first definition of a label gives its address, and no other changes it.
-pub fn definitions_give_addresses() -> u8
+pub fn definitions_give_addresses()
     ensures { Addresses }
-{
-    0
-}
+{}
 
 // The word at an address, as words are added, patched and settled.
-pub fn words_have_addresses() -> u8
+pub fn words_have_addresses()
     ensures { ByAddress }
-{
-    0
-}
+{}
 
 // The cell of a variable or a number is known when it is used, whatever comes after.
-pub fn cells_are_known_at_use() -> u8
+pub fn cells_are_known_at_use()
     ensures { Known }
-{
-    0
-}
+{}
 
 // Small texts, put into code.
-pub fn samples_hold() -> u8
+pub fn samples_hold()
     ensures { Samples }
-{
-    0
-}
+{}

@@ -2,7 +2,7 @@
 use crate::action::Action;
 use crate::state::State;
 
-#[derive(Clone, Copy, Drop)]
+#[derive(Clone, Copy, PartialEq, Eq, Debug)]
 pub enum Move {
     // it refuses the token
     Refuse,

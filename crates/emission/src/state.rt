@@ -1,5 +1,5 @@
 // The states of the translator, which its stack of returns holds too: those of the recogniser and two that only return.
-#[derive(Clone, Copy, Drop)]
+#[derive(Clone, Copy, PartialEq, Eq, Debug)]
 pub enum State {
     // after a whole command of the program
     Next,

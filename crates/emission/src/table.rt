@@ -89,50 +89,22 @@ const MOVES: [Move; 45] = [
     Move::Go(Action::CloseGroup, State::AfterOperand),
 ];
 
-fn state_number(state: State) -> usize
+// The row of a state, in the order in which the states are listed.
+fn row(state: State) -> usize
     ensures { result ≡ state_number state }
 {
-    match state {
-        State::Next => 0,
-        State::Start => 1,
-        State::Label => 2,
-        State::LetWord => 3,
-        State::LetName => 4,
-        State::LetEnd => 5,
-        State::GoWord => 6,
-        State::ToWord => 7,
-        State::ToName => 8,
-        State::OfWord => 9,
-        State::OfNames => 10,
-        State::OfComma => 11,
-        State::ReadWord => 12,
-        State::ReadNames => 13,
-        State::ReadComma => 14,
-        State::PrintWord => 15,
-        State::PrintList => 16,
-        State::LeftSide => 17,
-        State::RightSide => 18,
-        State::ThenPart => 19,
-        State::ElsePart => 20,
-        State::Operand => 21,
-        State::AfterOperand => 22,
-        State::Group => 23,
-    }
+    state as usize
 }
 
-// The move with a letter.
-fn lettered(letter: u8) -> Move
-    ensures { result ≡ slice_index_or all_moves (letter - 46) Refuse }
+// The move with a letter, of moves whose first has the letter ".".
+fn lettered(moves: &[Move], letter: u8) -> Move
+    ensures { result ≡ slice_index_or moves.now (letter - 46) Refuse }
 {
-    if letter < 46 {
-        Move::Refuse
-    } else if letter < 91 {
-        MOVES[(letter - 46) as usize]
-    } else {
-        Move::Refuse
-    }
+    let index = letter.saturating_sub(b'.') as usize;
+    moves.get(index).copied().unwrap_or(Move::Refuse)
 }
 
+#[tactic(auto, unfolding(crate::specs::Classes::letters))]
 fn letter(row: usize, column: usize) -> u8
     requires row_bound { row < 24 }
     requires column_bound { column < 26 }
@@ -145,6 +117,5 @@ fn letter(row: usize, column: usize) -> u8
 pub fn entry(state: State, class: usize) -> Move
     ensures { meaning result ≡ class_move state «class» }
 {
-    let column = if class < 26 { class } else { 25 };
-    lettered(letter(state_number(state), column))
+    lettered(&MOVES, letter(row(state), class.min(25)))
 }

@@ -7,43 +7,31 @@ ghost use Rattle.grammar.specs.Laws.{OneReading, Parser, Exact, Viable, OneFault
 pub mod state;
 
 // A list of tokens reads as one tree at most.
-pub fn one_reading_holds() -> u8
+pub fn one_reading_holds()
     ensures { OneReading }
-{
-    0
-}
+{}
 
 // `parse` finds the tree of the tokens, if they have one.
-pub fn parser_is_exact() -> u8
+pub fn parser_is_exact()
     ensures { Parser }
-{
-    0
-}
+{}
 
 // The recogniser accepts exactly the programs.
-pub fn recogniser_is_exact() -> u8
+pub fn recogniser_is_exact()
     ensures { Exact }
-{
-    0
-}
+{}
 
 // The recogniser stops at the first token with which no program begins.
-pub fn recogniser_is_viable() -> u8
+pub fn recogniser_is_viable()
     ensures { Viable }
-{
-    0
-}
+{}
 
 // Tokens are a program or have one first fault, and `first_fault` says where.
-pub fn one_fault_holds() -> u8
+pub fn one_fault_holds()
     ensures { OneFault }
-{
-    0
-}
+{}
 
 // The recogniser finds the first fault step by step.
-pub fn steps_find_the_fault() -> u8
+pub fn steps_find_the_fault()
     ensures { Steps }
-{
-    0
-}
+{}

@@ -1,5 +1,5 @@
 // The states of the recogniser, which its stack of returns holds too.
-#[derive(Clone, Copy, Drop)]
+#[derive(Clone, Copy, PartialEq, Eq, Debug)]
 pub enum State {
     // after a whole command of the program
     Next,

@@ -9,5 +9,6 @@ pub mod Scans
 pub mod Fitting
 pub mod Naming
 pub mod Table
+pub mod Pasts
 pub mod Configs
 pub mod Passing

@@ -7,50 +7,36 @@ ghost use Rattle.limits.specs.Laws.{OneAnswer, OnePass, Cells, Table, Trees, Sta
 ghost use Rattle.limits.specs.Samples.{Samples};
 
 // A text has one refusal or is accepted as one program, and `refusal` says which.
-pub fn one_answer_holds() -> u8
+pub fn one_answer_holds()
     ensures { OneAnswer }
-{
-    0
-}
+{}
 
 // One pass with the recogniser's stack finds the first refusal of 3 to 11.
-pub fn one_pass_suffices() -> u8
+pub fn one_pass_suffices()
     ensures { OnePass }
-{
-    0
-}
+{}
 
 // Variables and numbers have cells of their own, and without refusal these are few.
-pub fn cells_are_apart() -> u8
+pub fn cells_are_apart()
     ensures { Cells }
-{
-    0
-}
+{}
 
 // The table of symbols has one for each first use of a name or number word, and no other.
-pub fn table_is_exact() -> u8
+pub fn table_is_exact()
     ensures { Table }
-{
-    0
-}
+{}
 
 // What holds of the tree of a program, by the refusals that its tokens lack.
-pub fn trees_are_within_limits() -> u8
+pub fn trees_are_within_limits()
     ensures { Trees }
-{
-    0
-}
+{}
 
 // What the recogniser's stack says of the tokens that it has taken: the role of a name, and how deep the stack is.
-pub fn states_agree() -> u8
+pub fn states_agree()
     ensures { States }
-{
-    0
-}
+{}
 
 // Small texts, their trees, refusals and symbols.
-pub fn samples_hold() -> u8
+pub fn samples_hold()
     ensures { Samples }
-{
-    0
-}
+{}

@@ -9,29 +9,21 @@ pub mod counts;
 pub mod returns;
 
 // What a name or a number refers to is known from its first use on.
-pub fn references_stay() -> u8
+pub fn references_stay()
     ensures { Stays }
-{
-    0
-}
+{}
 
 // The table has the addresses of the draft's labels.
-pub fn labels_are_placed() -> u8
+pub fn labels_are_placed()
     ensures { Placed }
-{
-    0
-}
+{}
 
 // Settled word by word, the code in memory is the code of the program.
-pub fn words_resolve() -> u8
+pub fn words_resolve()
     ensures { Resolves }
-{
-    0
-}
+{}
 
 // At a token the states on the stack are left, in memory as in the definitions, until one takes it.
-pub fn states_are_left() -> u8
+pub fn states_are_left()
     ensures { Leaves }
-{
-    0
-}
+{}

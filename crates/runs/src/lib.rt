@@ -12,64 +12,46 @@ pub mod instruction;
 pub mod status;
 
 // A word means an instruction exactly if it is made from it.
-pub fn words_decode() -> u8
+pub fn words_decode()
     ensures { WordsDecode }
-{
-    0
-}
+{}
 
 // The code of a program has no corrupt word, and no run of it becomes corrupt.
-pub fn code_is_sound() -> u8
+pub fn code_is_sound()
     ensures { CodeIsSound }
-{
-    0
-}
+{}
 
 // A run writes no cell but #TEMP, the temporaries and its variables; with those set to 0 the cells are ready for another run.
-pub fn other_cells_stay() -> u8
+pub fn other_cells_stay()
     ensures { OtherCellsStay }
-{
-    0
-}
+{}
 
 // Whatever the code, n steps and then m are n + m steps, and their counts add up.
-pub fn steps_may_be_cut() -> u8
+pub fn steps_may_be_cut()
     ensures { StepsMayBeCut }
-{
-    0
-}
+{}
 
 // The events whose running cost is at most n are all there from some number of source steps on, and no others come later.
-pub fn budgeted_runs_settle() -> u8
+pub fn budgeted_runs_settle()
     ensures { BudgetedRunsSettle }
-{
-    0
-}
+{}
 
 // After n steps the machine shows just the source run's events whose running cost is at most n, and its host is what they leave.
-pub fn budgeted_runs_agree() -> u8
+pub fn budgeted_runs_agree()
     ensures { BudgetedRunsAgree }
-{
-    0
-}
+{}
 
 // The machine shows the whole of a run exactly when the run closes and the steps are at least its cost.
-pub fn whole_run_exactly_when() -> u8
+pub fn whole_run_exactly_when()
     ensures { WholeRunExactlyWhen }
-{
-    0
-}
+{}
 
 // As many instructions are carried out as there are steps, while the run is open; once it has closed, as many as it cost.
-pub fn instructions_counted() -> u8
+pub fn instructions_counted()
     ensures { InstructionsCounted }
-{
-    0
-}
+{}
 
 // Worked samples of the source run, the code and the machine.
-pub fn samples_hold() -> u8
+pub fn samples_hold()
     ensures { Samples }
-{
-    0
-}
+{}

@@ -7,37 +7,27 @@ ghost use Rattle.sheets.specs.Laws.{AcceptedIsPlaced, SymbolsStand, SheetRunsAgr
 ghost use Rattle.sheets.specs.Samples.{Samples};
 
 // A text gets one refusal, or is accepted with one program and one image, and not both.
-pub fn one_image() -> u8
+pub fn one_image()
     ensures { OneImage }
-{
-    0
-}
+{}
 
 // What a load of an accepted text leaves: a program within the limits, cells that are apart and ready, few words of 16 bits.
-pub fn accepted_is_placed() -> u8
+pub fn accepted_is_placed()
     ensures { AcceptedIsPlaced }
-{
-    0
-}
+{}
 
 // Each symbol of an accepted text points to bytes of the text, and leads to the cell or the address of what they name.
-pub fn symbols_stand() -> u8
+pub fn symbols_stand()
     ensures { SymbolsStand }
-{
-    0
-}
+{}
 
 // After n steps the machine on the image of an accepted text shows just the events of running cost at most n of the source
 // run of the program that the text reads as; the whole run exactly when the steps are at least its cost; never a corrupt word.
-pub fn sheet_runs_agree() -> u8
+pub fn sheet_runs_agree()
     ensures { SheetRunsAgree }
-{
-    0
-}
+{}
 
 // Small sheets: their refusals, images and runs.
-pub fn samples_hold() -> u8
+pub fn samples_hold()
     ensures { Samples }
-{
-    0
-}
+{}
