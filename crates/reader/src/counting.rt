@@ -1,5 +1,6 @@
 // Counting for the limits of expressions, of nesting and of lists, and tests of a token.
 ghost use Rattle.std.specs.Prelude.{◌≡◌, ℕ, false, List};
+ghost use Rattle.std.specs.Result.{result_err};
 ghost use Rattle.token.specs.Tokens.{name as named, keyword as reserved, sign as signed};
 ghost use Rattle.token.specs.Views.{meant};
 ghost use Rattle.reading.specs.Counting.{counts, counted, form_refusal};
@@ -37,23 +38,20 @@ fn after_sign(counts: Counts, sign: Sign) -> Counts
     match sign {
         Sign::Plus | Sign::Minus | Sign::Times | Sign::Over => Counts {
             operators: counts.operators.saturating_add(1),
-            depth: counts.depth,
-            names: counts.names,
+            ..counts
         },
         Sign::Open => Counts {
-            operators: counts.operators,
             depth: counts.depth.saturating_add(1),
-            names: counts.names,
+            ..counts
         },
         Sign::Close => Counts {
-            operators: counts.operators,
             depth: counts.depth.saturating_sub(1),
-            names: counts.names,
+            ..counts
         },
         _ => Counts {
             operators: 0,
             depth: 0,
-            names: counts.names,
+            ..counts
         },
     }
 }
@@ -64,81 +62,62 @@ pub fn after_token(counts: Counts, token: Token<'_>) -> Counts
 {
     match token {
         Token::Name(_) => Counts {
-            operators: counts.operators,
-            depth: counts.depth,
             names: counts.names.saturating_add(1),
+            ..counts
         },
-        Token::Number(_) => counts,
         Token::Keyword(_) => no_counts(),
         Token::Sign(sign) => after_sign(counts, sign),
         Token::Other(_) => Counts {
             operators: 0,
             depth: 0,
-            names: counts.names,
+            ..counts
         },
-        Token::End => counts,
+        Token::Number(_) | Token::End => counts,
     }
 }
 
-// The refusal of 9 or 10 at a sign.
-fn sign_refusal(counts: Counts, sign: Sign) -> Option<Refusal>
-    ensures { (ifs : ℕ) → result ≡ form_refusal counts ifs false (signed sign) }
+// Refuses with 9 or 10 at a sign.
+fn check_sign(counts: Counts, sign: Sign) -> Result<(), Refusal>
+    ensures { (ifs : ℕ) → result_err result ≡ form_refusal counts ifs false (signed sign) }
 {
     match sign {
-        Sign::Plus | Sign::Minus | Sign::Times | Sign::Over => {
-            if counts.operators >= OPERATORS {
-                Some(Refusal::TooManyOperators)
-            } else {
-                None
-            }
+        Sign::Plus | Sign::Minus | Sign::Times | Sign::Over if counts.operators >= OPERATORS => {
+            Err(Refusal::TooManyOperators)
         }
-        Sign::Open => {
-            if counts.depth >= DEPTH {
-                Some(Refusal::TooDeep)
-            } else {
-                None
-            }
-        }
-        _ => None,
+        Sign::Open if counts.depth >= DEPTH => Err(Refusal::TooDeep),
+        _ => Ok(()),
     }
 }
 
-// The refusal of 10 at a keyword, inside so many IFs.
-fn keyword_refusal(ifs: usize, keyword: Keyword) -> Option<Refusal>
-    ensures { (counts : Counts) → result ≡ form_refusal counts ifs false (reserved keyword) }
+// Refuses with 10 at a keyword, inside so many IFs.
+fn check_keyword(ifs: usize, keyword: Keyword) -> Result<(), Refusal>
+    ensures { (counts : Counts) → result_err result ≡ form_refusal counts ifs false (reserved keyword) }
 {
-    match keyword {
-        Keyword::If => {
-            if ifs >= IFS {
-                Some(Refusal::TooDeep)
-            } else {
-                None
-            }
-        }
-        _ => None,
+    if keyword == Keyword::If && ifs >= IFS {
+        return Err(Refusal::TooDeep);
     }
+    Ok(())
 }
 
-// The refusal of 11 at a name.
-fn name_refusal(counts: Counts, listed: bool) -> Option<Refusal>
-    ensures { (ifs : ℕ) (n : List ℕ) → result ≡ form_refusal counts ifs listed (named n) }
+// Refuses with 11 at a name.
+fn check_name(counts: Counts, listed: bool) -> Result<(), Refusal>
+    ensures { (ifs : ℕ) (n : List ℕ) → result_err result ≡ form_refusal counts ifs listed (named n) }
 {
     if listed && counts.names >= LABELS {
-        Some(Refusal::TooManyTargets)
-    } else {
-        None
+        return Err(Refusal::TooManyTargets);
     }
+    Ok(())
 }
 
-// The refusal of 9 to 11 at a token, inside so many IFs; `listed` says that a name is a label in a list after OF.
-pub fn form_refusal(counts: Counts, ifs: usize, listed: bool, token: Token<'_>) -> Option<Refusal>
-    ensures { result ≡ form_refusal_by counts ifs listed (meant token.entry) }
+// Refuses with 9 to 11 at a token, inside so many IFs; `listed` says that a name is a label in a list after OF.
+pub fn check_form(counts: Counts, ifs: usize, listed: bool, token: Token<'_>) -> Result<(), Refusal>
+    ensures { result_err result ≡ form_refusal_by counts ifs listed (meant token.entry) }
 {
     match token {
-        Token::Name(_) => name_refusal(counts, listed),
-        Token::Keyword(keyword) => keyword_refusal(ifs, keyword),
-        Token::Sign(sign) => sign_refusal(counts, sign),
-        Token::Number(_) | Token::Other(_) | Token::End => None,
+        Token::Name(_) => check_name(counts, listed),
+        Token::Keyword(keyword) => check_keyword(ifs, keyword),
+        Token::Sign(sign) => check_sign(counts, sign),
+        Token::Number(_) | Token::Other(_) | Token::End => Ok(()),
     }
 }
 
@@ -146,21 +125,12 @@ pub fn form_refusal(counts: Counts, ifs: usize, listed: bool, token: Token<'_>) 
 pub fn is_of(token: Token<'_>) -> bool
     ensures { result ≡ is_of (meant token.entry) }
 {
-    match token {
-        Token::Keyword(keyword) => match keyword {
-            Keyword::Of => true,
-            _ => false,
-        },
-        _ => false,
-    }
+    matches!(token, Token::Keyword(Keyword::Of))
 }
 
 // Whether it is the end of the text.
 pub fn is_end(token: Token<'_>) -> bool
     ensures { result ≡ is_end (meant token.entry) }
 {
-    match token {
-        Token::End => true,
-        _ => false,
-    }
+    matches!(token, Token::End)
 }

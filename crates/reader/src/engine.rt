@@ -23,10 +23,7 @@ impl<'c, 'o, 'm, 'r> Reader<'c, 'o, 'm, 'r> {
     fn current(&self) -> State
         ensures { result ≡ current (returns self.now) }
     {
-        match self.returns.top() {
-            Some(top) => top.state,
-            None => State::Next,
-        }
+        self.returns.top().map_or(State::Next, |top| top.state)
     }
 
     // States are left, each with its action, until one takes a token of this class: the address at which that state was entered,
@@ -38,19 +35,14 @@ impl<'c, 'o, 'm, 'r> Reader<'c, 'o, 'm, 'r> {
         ensures counts { self.new.counts ≡ self.old.counts }
         ensures kept { Keeps self.old self.new }
     {
-        'states: loop {
-            match self.returns.pop() {
-                None => return None,
-                Some(top) => {
-                    let step = entry(top.state, class);
-                    match step {
-                        Move::Refuse => return None,
-                        Move::Leave(action) => self.assembler.perform(action, top.address, 0),
-                        _ => return Some((top.address, step)),
-                    }
-                }
+        'states: while let Some(top) = self.returns.pop() {
+            match entry(top.state, class) {
+                Move::Refuse => return None,
+                Move::Leave(action) => self.assembler.perform(action, top.address, 0),
+                step => return Some((top.address, step)),
             }
         }
+        None
     }
 
     // A state comes on top of the stack. By the limits of a text there is always room for it.

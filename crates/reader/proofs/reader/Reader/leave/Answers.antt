@@ -17,11 +17,11 @@ states-preserved c =
       search rules,
     )
 
-pub returns-in_default : goal.returns-in_default
-returns-in_default c =
+pub returns-in_default-entry : goal.returns-in_default-entry
+returns-in_default-entry c =
     let s = c.states.self in
-    let t = takes c.entry-step.result c.in_default.not-Refuse c.in_default.not-Leave in
-    let f = sym c.states.invariant.0 ∙ taken (rooms s) c.args.class (returns s) _ c.in-Some.top (plan s) c.in-Some.ensures.cases t.0 (sym c.entry-step.ensures ∙ t.1) in
+    let t = takes c.entry.result c.in_default-entry.not-Refuse c.in_default-entry.not-Leave in
+    let f = sym c.states.invariant.0 ∙ taken (rooms s) c.args.class (returns s) _ c.in-Some.top (plan s) c.in-Some.ensures.cases t.0 (sym c.entry.ensures ∙ t.1) in
     record {
       answer = (t.0, ap (λ (x : Found). x.taken) f, t.1);
       below = sym (ap (λ (x : Found). x.below) f);
