@@ -1,5 +1,5 @@
 -- What a program and its cells must meet for its code to do what it says: limits of the text, cells that are apart, and what they hold at first.
-use Rattle.std.specs.Prelude.{◌≡◌, ℕ, suc, ◌<◌, ◌≤◌, ◌≢◌, ◌⊎◌, List, [], ◌∷◌, ◌++◌, length, get_or, ℤ, pos, slice_index_or}
+use Rattle.std.specs.Prelude.{◌≡◌, ℕ, suc, ◌<◌, ◌≤◌, ◌≢◌, ◌⊎◌, List, [], ◌∷◌, ◌++◌, length, ℤ, pos, slice_index_or}
 use Rattle.trees.specs.Trees.{Name, Expr, variable, literal, binary, Command, labelled, empty, assign, go_to, go_to_of, read, print, branch, Program, commands}
 use Rattle.arithmetic.specs.Words.{Words}
 use Rattle.runs.specs.Source.{operators, decimal}
@@ -96,7 +96,7 @@ pub record Placed (k : Layout) (p : Program) : Type 0 where
 -- what the cells hold when a run begins: 1 in #ONE, 0 for each variable, its fitted value for each number; temporaries may hold anything
 pub record Ready (w : Words) (k : Layout) (p : Program) (s : List ℤ) : Type 0 where
   pub all_there : k.used ≤ length s
-  pub one_held : get_or s one (pos 0) ≡ pos 1
+  pub one_held : slice_index_or s one (pos 0) ≡ pos 1
   pub variable_zero : (x : Name) → Variable p x → slice_index_or s (k.variable_cell x) (pos 0) ≡ pos 0
   pub literal_held : (ds : List ℕ) → Literal p ds → slice_index_or s (k.literal_cell ds) (pos 0) ≡ w.fit (pos (decimal ds))
 
