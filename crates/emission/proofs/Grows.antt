@@ -4,7 +4,8 @@ use mathlib.Core.List.{reverse_aux}
 use mathlib.Core.Option.{Option, none, some, some-injective, none-ne-some}
 use lib.Dec.{eqb_refl}
 use Rattle.token.specs.Tokens.{Token}
-use Rattle.trees.specs.Trees.{Name, Operator}
+use Rattle.trees.specs.Trees.{Name}
+use Rattle.trees.specs.declared.operator.Operator.{Operator}
 use Rattle.runs.specs.declared.instruction.Instruction.TheVariants.{Bru}
 use Rattle.runs.specs.Code.{Layout, first_temporary}
 use Rattle.grammar.specs.Tests.{is, is_name, is_number, spelling}

@@ -7,7 +7,9 @@ use mathlib.Core.Option
 use mathlib.Core.Option.{Option, none, some}
 use lib.ListN.{length-reverse_aux}
 use Rattle.token.specs.Tokens.{Token, keyword, sign}
-use Rattle.trees.specs.Trees.{Name, plus, minus, times, over, Relation, Expr, variable, literal, binary, Command, branch}
+use Rattle.trees.specs.Trees.{Name, Expr, variable, literal, binary, Command, branch}
+use Rattle.trees.specs.declared.operator.Operator.TheVariants.{Plus as plus, Minus as minus, Times as times, Over as over}
+use Rattle.trees.specs.declared.relation.Relation.{Relation}
 use Rattle.runs.specs.declared.instruction.Instruction.TheVariants.{Bru, Lda, Sta, Sub, Read, Convert, Newline, Stop}
 use Rattle.runs.specs.Source.{cost}
 use Rattle.runs.specs.Code.{Layout, expression, temp, one, branching, comparing, reads, values, size, then_at, else_at, past}

@@ -2,7 +2,8 @@
 use Rattle.std.proofs.Common.{◌≡◌, ℕ, suc, ◌+◌, ◌<◌, Bool, true, false, cond, ◌⊎◌, List, [], ◌∷◌, refl, subst, inl, inr, arith}
 use mathlib.Core.Option.{Option, none, some, some-injective, none-ne-some}
 use Rattle.token.specs.Tokens.{Token}
-use Rattle.trees.specs.Trees.{Name, Operator}
+use Rattle.trees.specs.Trees.{Name}
+use Rattle.trees.specs.declared.operator.Operator.{Operator}
 use Rattle.runs.specs.Code.{Layout, first_temporary}
 use Rattle.grammar.specs.Machine.{Rows, stop, on, at_name, at_number, go_on}
 use Rattle.limits.specs.Uses.{In, in_tail}

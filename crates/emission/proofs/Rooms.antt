@@ -5,7 +5,8 @@ use Rattle.std.proofs.Common.{◌≡◌, ℕ, zero, suc, ◌+◌, ◌<◌, ◌�
 use mathlib.Core.Option.{some}
 use Rattle.std.proofs.lemmas.Bool.{cases_lt}
 use Rattle.token.specs.Tokens.{Token, name, keyword, sign}
-use Rattle.trees.specs.Trees.{Operator, Expr, variable, literal, binary}
+use Rattle.trees.specs.Trees.{Expr, variable, literal, binary}
+use Rattle.trees.specs.declared.operator.Operator.{Operator}
 use Rattle.arithmetic.specs.Words.{Words}
 use Rattle.runs.specs.Source.{operators as count}
 use Rattle.runs.specs.Code.{Layout}

@@ -4,7 +4,8 @@ use Rattle.grammar.specs.declared.state.State.TheVariants as recognised
 use Rattle.std.proofs.Common.{◌≡◌, ℕ, suc, ◌+◌, List, [], ◌∷◌, map, length, refl, ap, ◌∙◌, inl, inr}
 use mathlib.Core.Option.{some}
 use Rattle.token.specs.Tokens.{Token}
-use Rattle.trees.specs.Trees.{Relation, Expr, variable, literal, binary}
+use Rattle.trees.specs.Trees.{Expr, variable, literal, binary}
+use Rattle.trees.specs.declared.relation.Relation.{Relation}
 use Rattle.runs.specs.declared.instruction.Instruction.TheVariants.{Bru, Lda}
 use Rattle.runs.specs.Code.{Layout, first_temporary, operations}
 use Rattle.grammar.specs.Concrete.{Sum, sole, then, Names, Sums, Statement, factor_tree, term_tree, sum_tree, command_tree}

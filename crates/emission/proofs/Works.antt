@@ -1,7 +1,8 @@
 -- The two stacks make the code of the tree.
 use Rattle.std.proofs.Common.{◌≡◌, ℕ, suc, ◌+◌, Bool, true, false, cond, List, [], ◌∷◌, ◌++◌, map, sym, refl, ap, ◌∙◌, arith}
 use mathlib.Core.List.{reverse_aux}
-use Rattle.trees.specs.Trees.{Operator, Expr, variable, literal, binary}
+use Rattle.trees.specs.Trees.{Expr, variable, literal, binary}
+use Rattle.trees.specs.declared.operator.Operator.{Operator}
 use Rattle.runs.specs.declared.instruction.Instruction.{Instruction}
 use Rattle.runs.specs.declared.instruction.Instruction.TheVariants.{Lda, Sta}
 use Rattle.runs.specs.Source.{operators}

@@ -1,6 +1,10 @@
 -- What each action does to a draft.
 use Rattle.std.specs.Prelude.{ℕ, ◌+◌, [], ◌∷◌}
-use Rattle.trees.specs.Trees.{Name, Operator, plus, minus, times, over, Relation, greater, equal, less}
+use Rattle.trees.specs.Trees.{Name}
+use Rattle.trees.specs.declared.operator.Operator.{Operator}
+use Rattle.trees.specs.declared.operator.Operator.TheVariants.{Plus as plus, Minus as minus, Times as times, Over as over}
+use Rattle.trees.specs.declared.relation.Relation.{Relation}
+use Rattle.trees.specs.declared.relation.Relation.TheVariants.{Greater as greater, Equal as equal, Less as less}
 use Rattle.runs.specs.declared.instruction.Instruction.TheVariants.{Bru, Lda, Sta, Sub, Read, Convert, Newline, Stop}
 use Rattle.runs.specs.Code.{Layout, temp, one, branching, comparing}
 use Rattle.emission.specs.Draft.{fixed, jump, jump_zero, Draft, draft, no_target, no_name, no_relation, here, with_work, emit, land, any, binds, reduced, push, operand, opened, closed, ended}

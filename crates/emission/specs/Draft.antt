@@ -1,7 +1,11 @@
 -- A draft: the code of the tokens so far, and what is still open in it.
 use Rattle.std.specs.Prelude.{ℕ, zero, suc, pred, ◌+◌, Bool, true, false, cond, List, [], ◌∷◌, map, reverse, length, ◌==◌}
 use mathlib.Core.List.{reverse_aux}
-use Rattle.trees.specs.Trees.{Name, Operator, plus, minus, times, over, Relation, greater}
+use Rattle.trees.specs.Trees.{Name}
+use Rattle.trees.specs.declared.operator.Operator.{Operator}
+use Rattle.trees.specs.declared.operator.Operator.TheVariants.{Plus as plus, Minus as minus, Times as times, Over as over}
+use Rattle.trees.specs.declared.relation.Relation.{Relation}
+use Rattle.trees.specs.declared.relation.Relation.TheVariants.{Greater as greater}
 use Rattle.runs.specs.Names.{same}
 use Rattle.runs.specs.declared.instruction.Instruction.{Instruction}
 use Rattle.runs.specs.declared.instruction.Instruction.TheVariants.{Bru, Brz, Lda, Sta}

@@ -4,7 +4,9 @@ use Rattle.token.specs.declared.kinds.Sign.TheVariants.{Semicolon, Plus, Minus, 
 use Rattle.std.proofs.Common.{◌≡◌, false, cond, List, [], ◌∷◌, refl, ap, ◌∙◌}
 use mathlib.Core.Option.{Option, some}
 use Rattle.token.specs.Tokens.{Token, name, keyword, sign}
-use Rattle.trees.specs.Trees.{Name, Relation, greater, equal, less}
+use Rattle.trees.specs.Trees.{Name}
+use Rattle.trees.specs.declared.relation.Relation.{Relation}
+use Rattle.trees.specs.declared.relation.Relation.TheVariants.{Greater as greater, Equal as equal, Less as less}
 use Rattle.grammar.specs.Tests.{is}
 use Rattle.grammar.specs.Grammar.{relation_sign}
 use Rattle.grammar.specs.Concrete.{AddSign, adds, takes, MulSign, multiplies, divides, Factor, var, lit, group, Term, factor, multiply, Sum, term, add, sole, then, Names, Sums, Statement, label, nil, set, jump, pick, read_none, read_some, print_none, print_some, test, Statements, add_sign, mul_sign, factor_t, term_t, sum_t, names_t, sums_t, statement_t, statements_t, program_t}

@@ -3,7 +3,8 @@ use Rattle.token.specs.declared.kinds.Keyword.TheVariants.{End, To, Then, Else}
 use Rattle.token.specs.declared.kinds.Sign.TheVariants.{Colon, Becomes, Close, Equal}
 use Rattle.std.proofs.Common.{◌≡◌, List, [], ◌∷◌, refl}
 use Rattle.token.specs.Tokens.{Token, name, keyword, sign}
-use Rattle.trees.specs.Trees.{Name, equal}
+use Rattle.trees.specs.Trees.{Name}
+use Rattle.trees.specs.declared.relation.Relation.TheVariants.{Equal as equal}
 use Rattle.grammar.specs.Concrete.{Factor, var, group, factor, multiply, Sum, term, add, sole, then, Statement, label, nil, set, jump, pick, read_none, read_some, print_none, print_some, test, Statements, factor_t, sum_t, statement_t, program_t}
 use Rattle.grammar.specs.Machine.{InCommands, first_command, after_commands, under_label, then_part, else_part, no_sum, sum, BeforeFactor, no_product, product, InCommand, of_assign, of_left, of_right, of_print, of_prints, of_group, Config, start, labelling, let_word, let_name, go_word, to_word, to_name, of_word, of_names, of_comma, read_word, read_names, read_comma, print_word, operand, after, done}
 use Rattle.grammar.proofs.Sound.{before_c, before_f, before_e, before}

@@ -3,7 +3,8 @@ use Rattle.token.specs.declared.kinds.Keyword.TheVariants.{End, Let, Go, To, Of,
 use Rattle.token.specs.declared.kinds.Sign.TheVariants.{Semicolon, Colon, Becomes, Open, Close, Comma}
 use Rattle.std.proofs.Common.{◌≡◌, List, [], ◌∷◌, ◌++◌, sym, refl, ap, ◌∙◌, subst, append_assoc}
 use Rattle.token.specs.Tokens.{Token, name, number, keyword, sign}
-use Rattle.trees.specs.Trees.{Name, Relation, Expr, binary, Command, labelled, assign, go_to_of, read, print, branch, Program}
+use Rattle.trees.specs.Trees.{Name, Expr, binary, Command, labelled, assign, go_to_of, read, print, branch, Program}
+use Rattle.trees.specs.declared.relation.Relation.{Relation}
 use Rattle.grammar.specs.Grammar.{Parted, one, more, IsOperand, a_variable, a_literal, in_parentheses, IsTerm, an_operand, a_product, a_quotient, IsExpression, a_term, a_sum, a_difference, relation_sign, IsName, a_name, AreNames, AreExpressions, IsCommand, a_label, nothing, a_let, a_go_to, a_go_to_of, a_read_alone, a_read, a_print_alone, a_print, an_if, Parses, program}
 use Rattle.grammar.specs.Concrete.{AddSign, adds, takes, MulSign, multiplies, divides, Factor, var, lit, group, Term, factor, multiply, Sum, term, add, Left, sole, then, Names, Sums, Statement, label, nil, set, jump, pick, read_none, read_some, print_none, print_some, test, Statements, add_sign, mul_sign, factor_t, term_t, sum_t, left_t, name_t, statement_t, program_t, add_operator, mul_operator, factor_tree, term_tree, sum_tree, head, tail, same_name, command_tree, program_tree}
 

@@ -4,7 +4,10 @@ use Rattle.token.specs.declared.kinds.Keyword.TheVariants.{End, Let, Go, To, Of,
 use Rattle.token.specs.declared.kinds.Sign.TheVariants.{Semicolon, Colon, Becomes, Plus, Minus, Times, Over, Open, Close, Comma}
 use Rattle.std.specs.Prelude.{ℕ, List, [], ◌∷◌, ◌++◌}
 use Rattle.token.specs.Tokens.{Token, name, number, keyword, sign}
-use Rattle.trees.specs.Trees.{Name, Operator, plus, minus, times, over, Relation, Expr, variable, literal, binary, Command, labelled, empty, assign, go_to, go_to_of, read, print, branch, Program}
+use Rattle.trees.specs.Trees.{Name, Expr, variable, literal, binary, Command, labelled, empty, assign, go_to, go_to_of, read, print, branch, Program}
+use Rattle.trees.specs.declared.operator.Operator.{Operator}
+use Rattle.trees.specs.declared.operator.Operator.TheVariants.{Plus as plus, Minus as minus, Times as times, Over as over}
+use Rattle.trees.specs.declared.relation.Relation.{Relation}
 use Rattle.grammar.specs.Grammar.{relation_sign}
 
 pub data AddSign : Type 0 where

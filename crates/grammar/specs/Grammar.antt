@@ -4,7 +4,10 @@ use Rattle.token.specs.declared.kinds.Keyword.TheVariants.{End, Let, Go, To, Of,
 use Rattle.token.specs.declared.kinds.Sign.TheVariants.{Semicolon, Colon, Becomes, Plus, Minus, Times, Over, Open, Close, Comma, Greater, Equal, Less}
 use Rattle.std.specs.Prelude.{ℕ, suc, ◌<◌, List, [], ◌∷◌, ◌++◌, length, take}
 use Rattle.token.specs.Tokens.{Token, name, number, keyword, sign}
-use Rattle.trees.specs.Trees.{Name, plus, minus, times, over, Relation, greater, equal, less, Expr, variable, literal, binary, Command, labelled, empty, assign, go_to, go_to_of, read, print, branch, Program}
+use Rattle.trees.specs.Trees.{Name, Expr, variable, literal, binary, Command, labelled, empty, assign, go_to, go_to_of, read, print, branch, Program}
+use Rattle.trees.specs.declared.operator.Operator.TheVariants.{Plus as plus, Minus as minus, Times as times, Over as over}
+use Rattle.trees.specs.declared.relation.Relation.{Relation}
+use Rattle.trees.specs.declared.relation.Relation.TheVariants.{Greater as greater, Equal as equal, Less as less}
 
 -- one or more parts, parted by a token: the first part and the further ones
 pub data Parted {A : Type 0} (Part : List Token → A → Type 0) (by : Token) : List Token → A → List A → Type 0 where

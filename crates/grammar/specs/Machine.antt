@@ -5,7 +5,9 @@ use Rattle.token.specs.declared.kinds.Sign.TheVariants.{Semicolon, Colon, Become
 use Rattle.std.specs.Prelude.{cond, List, [], ◌∷◌}
 use Rattle.std.proofs.Math.Option.{Option, none, some}
 use Rattle.token.specs.Tokens.{Token, keyword, sign}
-use Rattle.trees.specs.Trees.{Name, Relation, greater, equal, less, Program}
+use Rattle.trees.specs.Trees.{Name, Program}
+use Rattle.trees.specs.declared.relation.Relation.{Relation}
+use Rattle.trees.specs.declared.relation.Relation.TheVariants.{Greater as greater, Equal as equal, Less as less}
 use Rattle.grammar.specs.Tests.{is, is_name, is_number, spelling}
 use Rattle.grammar.specs.Concrete.{AddSign, adds, takes, MulSign, multiplies, divides, Factor, var, lit, group, Term, factor, multiply, Sum, term, add, sole, then, Names, Sums, Statement, label, nil, set, jump, pick, read_none, read_some, print_none, print_some, test, Statements, program_tree}
 

@@ -5,7 +5,9 @@ use Rattle.std.proofs.Common.{◌≡◌, ℕ, suc, ◌+◌, ◌<◌, ◌≤◌, 
 use mathlib.Core.Option.{some}
 use Rattle.std.proofs.lemmas.Bool.{cases_lt}
 use Rattle.token.specs.Tokens.{Token, name, number, keyword, sign}
-use Rattle.trees.specs.Trees.{Name, Relation, greater, equal, less, Program, commands}
+use Rattle.trees.specs.Trees.{Name, Program, commands}
+use Rattle.trees.specs.declared.relation.Relation.{Relation}
+use Rattle.trees.specs.declared.relation.Relation.TheVariants.{Greater as greater, Equal as equal, Less as less}
 use Rattle.arithmetic.specs.Words.{Words}
 use Rattle.grammar.specs.Grammar.{relation_sign, Parses}
 use Rattle.grammar.specs.Concrete.{AddSign, adds, takes, MulSign, multiplies, divides, Factor, var, lit, group, Term, factor, multiply, Sum, term, add, sole, then, Names, Sums, Statement, label, nil, set, jump, pick, read_none, read_some, print_none, print_some, test, Statements, add_sign, mul_sign, factor_t, term_t, sum_t, name_t, names_t, sums_t, statement_t, statements_t, program_t, factor_tree, term_tree, sum_tree, head, tail, same_name, command_tree}

@@ -5,7 +5,8 @@ use Rattle.std.proofs.Common.{◌≡◌, pred, List, [], ◌∷◌, reverse, sym
 use mathlib.Core.List.{reverse_aux}
 use mathlib.Core.Option.{some}
 use Rattle.token.specs.Tokens.{Token, name, keyword, sign}
-use Rattle.trees.specs.Trees.{Relation, greater, equal, less}
+use Rattle.trees.specs.declared.relation.Relation.{Relation}
+use Rattle.trees.specs.declared.relation.Relation.TheVariants.{Greater as greater, Equal as equal, Less as less}
 use Rattle.grammar.specs.Grammar.{relation_sign}
 use Rattle.grammar.specs.Concrete.{AddSign, adds, takes, MulSign, multiplies, divides, Factor, var, lit, group, Term, factor, multiply, Sum, term, add, Left, sole, then, Names, Sums, Statement, label, nil, set, jump, pick, read_none, read_some, print_none, print_some, test, Statements, add_sign, mul_sign, factor_t, term_t, sum_t, left_t, name_t, names_t, sums_t, statement_t, statements_t}
 use Rattle.grammar.specs.Machine.{InCommands, first_command, after_commands, under_label, then_part, else_part, BeforeTerm, no_sum, sum, BeforeFactor, no_product, product, InCommand, of_assign, of_left, of_right, of_print, of_prints, of_group, Config, start, labelling, let_word, let_name, go_word, to_word, to_name, of_word, of_names, of_comma, read_word, read_names, read_comma, print_word, operand, after, done, run, begun}

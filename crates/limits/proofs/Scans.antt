@@ -6,7 +6,9 @@ use Rattle.std.proofs.Common.{◌≡◌, true, false, List, [], ◌∷◌, ◌++
 use mathlib.Core.List.{reverse_aux}
 use mathlib.Core.Option.{Option, none, some}
 use Rattle.token.specs.Tokens.{Token, name, number, keyword, sign}
-use Rattle.trees.specs.Trees.{Relation, greater, equal, less, Program}
+use Rattle.trees.specs.Trees.{Program}
+use Rattle.trees.specs.declared.relation.Relation.{Relation}
+use Rattle.trees.specs.declared.relation.Relation.TheVariants.{Greater as greater, Equal as equal, Less as less}
 use Rattle.grammar.specs.Grammar.{relation_sign, Parses}
 use Rattle.grammar.specs.Concrete.{AddSign, adds, takes, MulSign, multiplies, divides, Factor, var, lit, group, Term, factor, multiply, Sum, term, add, Left, sole, then, Names, Sums, Statement, label, nil, set, jump, pick, read_none, read_some, print_none, print_some, test, Statements, add_sign, mul_sign, factor_t, term_t, sum_t, left_t, name_t, names_t, sums_t, statement_t, statements_t, program_t, factor_tree, term_tree, sum_tree, head, tail, same_name, command_tree, program_tree}
 use Rattle.grammar.proofs.Yields.{parsed_to}

@@ -2,7 +2,9 @@
 use Rattle.std.specs.Prelude.{◌≡◌, ℕ, List, [], ◌∷◌, ℤ, pos, negsuc, codes}
 use Rattle.std.proofs.Math.Option.{Option, none, some}
 use Rattle.token.specs.Lexis.{tokens}
-use Rattle.trees.specs.Trees.{Name, plus, minus, times, equal, variable, literal, binary, Command, labelled, empty, print, branch, Program}
+use Rattle.trees.specs.Trees.{Name, variable, literal, binary, Command, labelled, empty, print, branch, Program}
+use Rattle.trees.specs.declared.operator.Operator.TheVariants.{Plus as plus, Minus as minus, Times as times}
+use Rattle.trees.specs.declared.relation.Relation.TheVariants.{Equal as equal}
 use Rattle.arithmetic.specs.Words.{Words}
 use Rattle.grammar.specs.Machine.{parse}
 use Rattle.limits.specs.Rules.{tokens_of, Refused}

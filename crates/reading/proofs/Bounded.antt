@@ -1,6 +1,6 @@
 -- The two stacks of an expression in the making stay within their rooms as operators are reduced and as the expression ends.
 use Rattle.std.proofs.Common.{ℕ, suc, ◌+◌, ◌≤◌, Bool, true, false, cond, List, [], ◌∷◌, length, arith}
-use Rattle.trees.specs.Trees.{Operator}
+use Rattle.trees.specs.declared.operator.Operator.{Operator}
 use Rattle.runs.specs.Code.{first_temporary}
 use Rattle.emission.specs.Draft.{Word, Mark, pending, parenthesis, Work, work, Draft, operation, reduce, reduced, left_off, ended}
 use Rattle.assembly.specs.Plans.{Rooms}

@@ -5,7 +5,9 @@ use Rattle.std.proofs.lemmas.Bool.{and_parts, and_from, eqb-true, eq-eqb}
 use Rattle.std.proofs.lemmas.Bool.Decides.{nat_tests, same_from_decides}
 use Rattle.std.proofs.lemmas.Int.{ints}
 use Rattle.std.specs.List.{AllByRecursion as All}
-use Rattle.trees.specs.Trees.{Name, Operator, plus, minus, times, over, Expr, variable, literal, binary}
+use Rattle.trees.specs.Trees.{Name, Expr, variable, literal, binary}
+use Rattle.trees.specs.declared.operator.Operator.{Operator}
+use Rattle.trees.specs.declared.operator.Operator.TheVariants.{Plus as plus, Minus as minus, Times as times, Over as over}
 use Rattle.arithmetic.specs.Words.{Words, Word, Lawful, is_zero, difference, less}
 use Rattle.runs.specs.Names.{same, Store, put}
 use Rattle.runs.specs.Source.{decimal, apply, value, nth, picked, pick_cost}

@@ -1,7 +1,9 @@
 -- Where the code of expressions, commands and what is left to run stands, as relations; and that a program's code stands so.
 use Rattle.std.proofs.Common.{◌≡◌, ℕ, suc, ◌+◌, ◌*◌, ◌≤◌, Bool, true, false, cond, List, [], ◌∷◌, ◌++◌, length, Some, refl, append_assoc, arith}
 use Rattle.std.specs.List.{AllByRecursion as All}
-use Rattle.trees.specs.Trees.{Name, Operator, Relation, Expr, variable, literal, binary, Command, labelled, empty, assign, go_to, go_to_of, read, print, branch}
+use Rattle.trees.specs.Trees.{Name, Expr, variable, literal, binary, Command, labelled, empty, assign, go_to, go_to_of, read, print, branch}
+use Rattle.trees.specs.declared.operator.Operator.{Operator}
+use Rattle.trees.specs.declared.relation.Relation.{Relation}
 use Rattle.runs.specs.Names.{same}
 use Rattle.runs.specs.Source.{operators, cost, command, end_of_then, Continuation, in_order, seek, find, then_read, then_print}
 use Rattle.runs.specs.Machine.{Instruction, Bru, Brz, Lda, Sta, Sub, Read, Convert, Newline, Stop, fetch}

@@ -1,8 +1,11 @@
 -- A step of the source is as many steps of the machine, with the same events at the same places.
 use Rattle.std.proofs.Common.{◌≡◌, ℕ, suc, ◌+◌, ◌*◌, ◌<◌, ◌≤◌, Bool, true, false, cond, ◌≢◌, ◌⊎◌, List, [], ◌∷◌, length, set, ℤ, pos, Some, Option, sym, refl, ap, ◌∙◌, subst, inl, inr, arith, length-set}
 use Rattle.std.proofs.lemmas.List.{get_or-set_same, get_or-set_other}
-use Rattle.trees.specs.Trees.{Name, Operator, plus, minus, times, over, Relation, greater, equal, Expr, variable, literal, binary, Command}
-use Rattle.trees.specs.Trees.{less as lesser}
+use Rattle.trees.specs.Trees.{Name, Expr, variable, literal, binary, Command}
+use Rattle.trees.specs.declared.operator.Operator.{Operator}
+use Rattle.trees.specs.declared.operator.Operator.TheVariants.{Plus as plus, Minus as minus, Times as times, Over as over}
+use Rattle.trees.specs.declared.relation.Relation.{Relation}
+use Rattle.trees.specs.declared.relation.Relation.TheVariants.{Greater as greater, Equal as equal, Less as lesser}
 use Rattle.arithmetic.specs.Words.{Words, Lawful, is_zero, difference, less}
 use Rattle.host.specs.Meaning.{Meaning, first, taken, fits, marked}
 use Rattle.runs.specs.Names.{same, Store, put}

@@ -5,7 +5,11 @@ use lib.ListN.{get_elem?, length-map}
 use Rattle.std.proofs.ByRecursion.{All-append}
 use Rattle.std.proofs.lemmas.Bool.{lt-ltb, eqb-true}
 use Rattle.std.specs.List.{AllByRecursion as All}
-use Rattle.trees.specs.Trees.{Name, Operator, plus, minus, times, over, Relation, greater, equal, less, Expr, variable, literal, binary, Command, labelled, empty, assign, go_to, go_to_of, read, print, branch}
+use Rattle.trees.specs.Trees.{Name, Expr, variable, literal, binary, Command, labelled, empty, assign, go_to, go_to_of, read, print, branch}
+use Rattle.trees.specs.declared.operator.Operator.{Operator}
+use Rattle.trees.specs.declared.operator.Operator.TheVariants.{Plus as plus, Minus as minus, Times as times, Over as over}
+use Rattle.trees.specs.declared.relation.Relation.{Relation}
+use Rattle.trees.specs.declared.relation.Relation.TheVariants.{Greater as greater, Equal as equal, Less as less}
 use Rattle.runs.specs.Names.{same}
 use Rattle.runs.specs.Source.{operators, cost}
 use Rattle.runs.specs.Machine.{Instruction, Bru, Brz, Brn, Brp, Ada, Sub, Mul, Div, Lda, Sta, Read, Convert, Newline, Stop, opcode, operand, encode, decode, called, inside, allowed, asked, fetch}

@@ -1,6 +1,9 @@
 -- Worked samples, each a closed computation.
 use Rattle.std.specs.Prelude.{◌≡◌, ℕ, zero, suc, min, cond, List, [], ◌∷◌, ℤ, pos, negsuc}
-use Rattle.trees.specs.Trees.{Name, plus, minus, times, over, Relation, greater, equal, less, Expr, variable, literal, binary, Command, labelled, empty, go_to, go_to_of, read, print, branch, Program}
+use Rattle.trees.specs.Trees.{Name, Expr, variable, literal, binary, Command, labelled, empty, go_to, go_to_of, read, print, branch, Program}
+use Rattle.trees.specs.declared.operator.Operator.TheVariants.{Plus as plus, Minus as minus, Times as times, Over as over}
+use Rattle.trees.specs.declared.relation.Relation.{Relation}
+use Rattle.trees.specs.declared.relation.Relation.TheVariants.{Greater as greater, Equal as equal, Less as less}
 use Rattle.arithmetic.specs.Words.{Words, Lawful}
 use Rattle.host.specs.Meaning.{meaning}
 use Rattle.runs.specs.Names.{same}

@@ -1,19 +1,12 @@
 -- Programs as trees: what a text means once it is read. Names and numbers are kept as their bytes.
 use Rattle.std.specs.Prelude.{ℕ, List, ◌∷◌}
+pub use Rattle.trees.specs.declared.operator.Operator.{Operator}
+pub use Rattle.trees.specs.declared.operator.Operator.TheVariants.{Plus as plus, Minus as minus, Times as times, Over as over}
+pub use Rattle.trees.specs.declared.relation.Relation.{Relation}
+pub use Rattle.trees.specs.declared.relation.Relation.TheVariants.{Greater as greater, Equal as equal, Less as less}
 
 abbrev pub Name : Type 0
 Name = List ℕ
-
-pub data Operator : Type 0 where
-  plus : Operator
-  minus : Operator
-  times : Operator
-  over : Operator
-
-pub data Relation : Type 0 where
-  greater : Relation
-  equal : Relation
-  less : Relation
 
 -- parentheses leave no trace: they only group
 pub data Expr : Type 0 where
