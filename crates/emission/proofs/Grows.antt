@@ -6,6 +6,7 @@ use lib.Dec.{eqb_refl}
 use Rattle.token.specs.Tokens.{Token}
 use Rattle.trees.specs.Trees.{Name}
 use Rattle.trees.specs.declared.operator.Operator.{Operator}
+use Rattle.trees.specs.declared.operator.Operator.TheVariants.{Plus as plus, Minus as minus, Times as times, Over as over}
 use Rattle.runs.specs.declared.instruction.Instruction.TheVariants.{Bru}
 use Rattle.runs.specs.Code.{Layout, first_temporary}
 use Rattle.grammar.specs.Tests.{is, is_name, is_number, spelling}
@@ -13,7 +14,7 @@ use Rattle.grammar.specs.Machine.{Rows, stop, on, at_name, at_number, choose, go
 use Rattle.grammar.proofs.Theorems.{run_append}
 use Rattle.limits.specs.Uses.{In, at_head, in_tail}
 use Rattle.emission.specs.Draft.{Word, fixed, Mark, pending, parenthesis, Work, work, Definition, Draft, words_of, here, patch, operation, any, binds, reduce, reduced, loaded, ended, left_off}
-use Rattle.emission.specs.Actions.{Action, Nothing, DefineLabel, SetTarget, StoreTarget, KeepName, JumpToName, LoadName, FirstLabel, FurtherLabel, ReadName, SkipLine, PrintValue, EndLine, PushVariable, PushNumber, OpenGroup, CloseGroup, Plus, Minus, Times, Over, EndExpression, Greater, Equal, Less, BeginThen, BeginElse, EndElse, EndProgram, perform}
+use Rattle.emission.specs.Actions.{Action, Nothing, DefineLabel, SetTarget, StoreTarget, KeepName, JumpToName, LoadName, FirstLabel, FurtherLabel, ReadName, SkipLine, PrintValue, EndLine, PushVariable, PushNumber, OpenGroup, CloseGroup, Operate, EndExpression, Compare, BeginThen, BeginElse, EndElse, EndProgram, perform}
 use Rattle.emission.specs.Table.{State, Next, Start, Label, LetWord, LetName, LetEnd, GoWord, ToWord, ToName, OfWord, OfNames, OfComma, ReadWord, ReadNames, ReadComma, PrintWord, PrintList, LeftSide, RightSide, ThenPart, ElsePart, Operand, AfterOperand, Group, Entry, table, returning, Return, entered, all_entered, Translator, translator, follow, above, if_returning, draft_rows, translator_rows, draft_step, outset, translated}
 use Rattle.emission.specs.Growth.{word_at, waits, waiting, Stays, as_it_was, lands, Onward, Later}
 use Rattle.emission.proofs.Sizes.{patch_length}
@@ -161,14 +162,9 @@ landing PushVariable = false
 landing PushNumber = false
 landing OpenGroup = false
 landing CloseGroup = false
-landing Plus = false
-landing Minus = false
-landing Times = false
-landing Over = false
+landing (Operate o) = false
 landing EndExpression = false
-landing Greater = false
-landing Equal = false
-landing Less = false
+landing (Compare r) = false
 landing BeginThen = false
 landing BeginElse = true
 landing EndElse = true
@@ -192,14 +188,9 @@ jumping PushVariable = false
 jumping PushNumber = false
 jumping OpenGroup = false
 jumping CloseGroup = false
-jumping Plus = false
-jumping Minus = false
-jumping Times = false
-jumping Over = false
+jumping (Operate o) = false
 jumping EndExpression = false
-jumping Greater = false
-jumping Equal = false
-jumping Less = false
+jumping (Compare r) = false
 jumping BeginThen = true
 jumping BeginElse = true
 jumping EndElse = false
@@ -234,14 +225,12 @@ module _ (y : Layout) where
   performed PushNumber a n d = grows_words d (perform y PushNumber a n d) (onward_same _) refl
   performed OpenGroup a n d = grows_words d (perform y OpenGroup a n d) (onward_same _) refl
   performed CloseGroup a n d = grows_words d (perform y CloseGroup a n d) (onward_same _) refl
-  performed Plus a n d = grows_words d (perform y Plus a n d) (onward_reduced any d.making) refl
-  performed Minus a n d = grows_words d (perform y Minus a n d) (onward_reduced any d.making) refl
-  performed Times a n d = grows_words d (perform y Times a n d) (onward_reduced binds d.making) refl
-  performed Over a n d = grows_words d (perform y Over a n d) (onward_reduced binds d.making) refl
+  performed (Operate plus) a n d = grows_words d (perform y (Operate plus) a n d) (onward_reduced any d.making) refl
+  performed (Operate minus) a n d = grows_words d (perform y (Operate minus) a n d) (onward_reduced any d.making) refl
+  performed (Operate times) a n d = grows_words d (perform y (Operate times) a n d) (onward_reduced binds d.making) refl
+  performed (Operate over) a n d = grows_words d (perform y (Operate over) a n d) (onward_reduced binds d.making) refl
   performed EndExpression a n d = grows_words d (perform y EndExpression a n d) (onward_more (onward_reduced any d.making) (onward_off (reduced any d.making))) refl
-  performed Greater a n d = grows_words d (perform y Greater a n d) (onward_word _ _) refl
-  performed Equal a n d = grows_words d (perform y Equal a n d) (onward_word _ _) refl
-  performed Less a n d = grows_words d (perform y Less a n d) (onward_word _ _) refl
+  performed (Compare r) a n d = grows_words d (perform y (Compare r) a n d) (onward_word _ _) refl
   performed BeginThen a n d = grows_words d (perform y BeginThen a n d) (onward_more (onward_word _ _) (onward_more (onward_word _ _) (onward_word _ _))) refl
   performed BeginElse a n d = grows_words d (perform y BeginElse a n d) (onward_more (onward_word (fixed (Bru 0)) (words_of d)) (onward_patch (pred a) _ _)) refl
   performed EndElse a n d = grows_words d (perform y EndElse a n d) (onward_patch (pred a) _ _) refl
@@ -266,14 +255,9 @@ module _ (y : Layout) where
   jumped PushNumber a n d h = absurd h
   jumped OpenGroup a n d h = absurd h
   jumped CloseGroup a n d h = absurd h
-  jumped Plus a n d h = absurd h
-  jumped Minus a n d h = absurd h
-  jumped Times a n d h = absurd h
-  jumped Over a n d h = absurd h
+  jumped (Operate o) a n d h = absurd h
   jumped EndExpression a n d h = absurd h
-  jumped Greater a n d h = absurd h
-  jumped Equal a n d h = absurd h
-  jumped Less a n d h = absurd h
+  jumped (Compare r) a n d h = absurd h
   jumped BeginThen a n d h = omega arith
   jumped BeginElse a n d h = let e = patch_length (pred a) (suc (here d)) (fixed (Bru 0) ∷ words_of d) in omega arith
   jumped EndElse a n d h = absurd h

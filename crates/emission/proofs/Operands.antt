@@ -4,11 +4,12 @@ use mathlib.Core.Option.{Option, none, some, some-injective, none-ne-some}
 use Rattle.token.specs.Tokens.{Token}
 use Rattle.trees.specs.Trees.{Name}
 use Rattle.trees.specs.declared.operator.Operator.{Operator}
+use Rattle.trees.specs.declared.operator.Operator.TheVariants.{Plus as plus, Minus as minus, Times as times, Over as over}
 use Rattle.runs.specs.Code.{Layout, first_temporary}
 use Rattle.grammar.specs.Machine.{Rows, stop, on, at_name, at_number, go_on}
 use Rattle.limits.specs.Uses.{In, in_tail}
 use Rattle.emission.specs.Draft.{Word, Mark, pending, parenthesis, Work, work, Draft, any, binds, operation, reduce, reduced, left_off, ended}
-use Rattle.emission.specs.Actions.{Action, Nothing, DefineLabel, SetTarget, StoreTarget, KeepName, JumpToName, LoadName, FirstLabel, FurtherLabel, ReadName, SkipLine, PrintValue, EndLine, PushVariable, PushNumber, OpenGroup, CloseGroup, Plus, Minus, Times, Over, EndExpression, Greater, Equal, Less, BeginThen, BeginElse, EndElse, EndProgram, perform}
+use Rattle.emission.specs.Actions.{Action, Nothing, DefineLabel, SetTarget, StoreTarget, KeepName, JumpToName, LoadName, FirstLabel, FurtherLabel, ReadName, SkipLine, PrintValue, EndLine, PushVariable, PushNumber, OpenGroup, CloseGroup, Operate, EndExpression, Compare, BeginThen, BeginElse, EndElse, EndProgram, perform}
 use Rattle.emission.specs.Table.{Entry, table, returning, Return, Translator, above, if_returning, draft_rows, translator_rows, draft_step, outset, translated}
 use Rattle.emission.specs.Room.{Below, Operands}
 use Rattle.emission.proofs.Grows.{in_split, in_none, Results, chosen}
@@ -105,14 +106,12 @@ module _ (b : ℕ) where
     ok_action PushNumber a n d h = ok_operand (y.literal_cell n) d.making.cells d.making.temporaries (low.literals n) h
     ok_action OpenGroup a n d h = h
     ok_action CloseGroup a n d h = h
-    ok_action Plus a n d h = ok_reduced any d.making h
-    ok_action Minus a n d h = ok_reduced any d.making h
-    ok_action Times a n d h = ok_reduced binds d.making h
-    ok_action Over a n d h = ok_reduced binds d.making h
+    ok_action (Operate plus) a n d h = ok_reduced any d.making h
+    ok_action (Operate minus) a n d h = ok_reduced any d.making h
+    ok_action (Operate times) a n d h = ok_reduced binds d.making h
+    ok_action (Operate over) a n d h = ok_reduced binds d.making h
     ok_action EndExpression a n d h = ok_ended (reduced any d.making) (ok_reduced any d.making h)
-    ok_action Greater a n d h = h
-    ok_action Equal a n d h = h
-    ok_action Less a n d h = h
+    ok_action (Compare r) a n d h = h
     ok_action BeginThen a n d h = h
     ok_action BeginElse a n d h = h
     ok_action EndElse a n d h = h

@@ -4,12 +4,11 @@ use Rattle.trees.specs.Trees.{Name}
 use Rattle.trees.specs.declared.operator.Operator.{Operator}
 use Rattle.trees.specs.declared.operator.Operator.TheVariants.{Plus as plus, Minus as minus, Times as times, Over as over}
 use Rattle.trees.specs.declared.relation.Relation.{Relation}
-use Rattle.trees.specs.declared.relation.Relation.TheVariants.{Greater as greater, Equal as equal, Less as less}
 use Rattle.runs.specs.declared.instruction.Instruction.TheVariants.{Bru, Lda, Sta, Sub, Read, Convert, Newline, Stop}
 use Rattle.runs.specs.Code.{Layout, temp, one, branching, comparing}
 use Rattle.emission.specs.Draft.{fixed, jump, jump_zero, Draft, draft, no_target, no_name, no_relation, here, with_work, emit, land, any, binds, reduced, push, operand, opened, closed, ended}
 pub use Rattle.emission.specs.declared.action.Action.{Action}
-pub use Rattle.emission.specs.declared.action.Action.TheVariants.{Nothing, DefineLabel, SetTarget, StoreTarget, KeepName, JumpToName, LoadName, FirstLabel, FurtherLabel, ReadName, SkipLine, PrintValue, EndLine, PushVariable, PushNumber, OpenGroup, CloseGroup, Plus, Minus, Times, Over, EndExpression, Greater, Equal, Less, BeginThen, BeginElse, EndElse, EndProgram}
+pub use Rattle.emission.specs.declared.action.Action.TheVariants.{Nothing, DefineLabel, SetTarget, StoreTarget, KeepName, JumpToName, LoadName, FirstLabel, FurtherLabel, ReadName, SkipLine, PrintValue, EndLine, PushVariable, PushNumber, OpenGroup, CloseGroup, Operate, EndExpression, Compare, BeginThen, BeginElse, EndElse, EndProgram}
 
 -- the operators on top that pass the test are reduced, then the new one is pushed
 abbrev pub operate : Operator → Draft → Draft
@@ -55,14 +54,9 @@ module _ (k : Layout) where
   perform PushNumber a n d = with_work (operand (k.literal_cell n) d.making) d
   perform OpenGroup a n d = with_work (opened d.making) d
   perform CloseGroup a n d = with_work (closed d.making) d
-  perform Plus a n d = operate plus d
-  perform Minus a n d = operate minus d
-  perform Times a n d = operate times d
-  perform Over a n d = operate over d
+  perform (Operate o) a n d = operate o d
   perform EndExpression a n d = with_work (ended (reduced any d.making)) d
-  perform Greater a n d = aside greater d
-  perform Equal a n d = aside equal d
-  perform Less a n d = aside less d
+  perform (Compare r) a n d = aside r d
   -- where the relation holds two words on, to the THEN part; else over it, to an address not yet known
   perform BeginThen a n d = with_relation no_relation (emit (fixed comparing ∷ fixed (branching d.relation (3 + here d)) ∷ fixed (Bru 0) ∷ []) d)
   -- over the ELSE part, to an address not yet known; the jump over the THEN part leads here

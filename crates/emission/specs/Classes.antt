@@ -4,6 +4,8 @@ use Rattle.token.specs.declared.kinds.Sign.TheVariants as sign_of
 use Rattle.std.specs.Prelude.{ℕ, ◌+◌, List, [], ◌∷◌, Some, None, codes, Option, slice_index_or}
 use Rattle.token.specs.Tokens.{Token, name, number, keyword, sign, other}
 use Rattle.grammar.specs.Tests.{keyword_code, sign_code}
+use Rattle.trees.specs.declared.operator.Operator.TheVariants as operator
+use Rattle.trees.specs.declared.relation.Relation.TheVariants as relation
 use Rattle.emission.specs.declared.moves.Move.TheVariants as code
 use Rattle.emission.specs.declared.moves.Move.{Move as Coded}
 use Rattle.emission.specs.declared.action.Action.TheVariants as action
@@ -103,18 +105,18 @@ all_moves =
     code.Call action.PushNumber state.AfterOperand state.PrintList ∷
     code.CallTwo action.OpenGroup state.Operand state.Group state.PrintList ∷
     code.Call action.PrintValue state.Operand state.PrintList ∷
-    code.Call action.Greater state.Operand state.RightSide ∷
-    code.Call action.Equal state.Operand state.RightSide ∷
-    code.Call action.Less state.Operand state.RightSide ∷
+    code.Call (action.Compare relation.Greater) state.Operand state.RightSide ∷
+    code.Call (action.Compare relation.Equal) state.Operand state.RightSide ∷
+    code.Call (action.Compare relation.Less) state.Operand state.RightSide ∷
     code.Call action.BeginThen state.Start state.ThenPart ∷
     code.Call action.BeginElse state.Start state.ElsePart ∷
     code.Go action.PushVariable state.AfterOperand ∷
     code.Go action.PushNumber state.AfterOperand ∷
     code.Call action.OpenGroup state.Operand state.Group ∷
-    code.Go action.Plus state.Operand ∷
-    code.Go action.Minus state.Operand ∷
-    code.Go action.Times state.Operand ∷
-    code.Go action.Over state.Operand ∷
+    code.Go (action.Operate operator.Plus) state.Operand ∷
+    code.Go (action.Operate operator.Minus) state.Operand ∷
+    code.Go (action.Operate operator.Times) state.Operand ∷
+    code.Go (action.Operate operator.Over) state.Operand ∷
     code.Go action.CloseGroup state.AfterOperand ∷ []
 
 -- a row for each state, in it the letter of a move for each class

@@ -8,7 +8,9 @@ use Rattle.trees.specs.Trees.{Name}
 use Rattle.runs.specs.Code.{Layout}
 use Rattle.grammar.specs.Machine.{Rows, stop, on, at_name, at_number, choose, go_on}
 use Rattle.emission.specs.Draft.{Draft, blank, here}
-use Rattle.emission.specs.Actions.{Action, Nothing, DefineLabel, SetTarget, StoreTarget, KeepName, JumpToName, LoadName, FirstLabel, FurtherLabel, ReadName, SkipLine, PrintValue, EndLine, PushVariable, PushNumber, OpenGroup, CloseGroup, Plus, Minus, Times, Over, EndExpression, Greater, Equal, Less, BeginThen, BeginElse, EndElse, EndProgram, perform}
+use Rattle.trees.specs.declared.operator.Operator.TheVariants as operator
+use Rattle.trees.specs.declared.relation.Relation.TheVariants as relation
+use Rattle.emission.specs.Actions.{Action, Nothing, DefineLabel, SetTarget, StoreTarget, KeepName, JumpToName, LoadName, FirstLabel, FurtherLabel, ReadName, SkipLine, PrintValue, EndLine, PushVariable, PushNumber, OpenGroup, CloseGroup, Operate, EndExpression, Compare, BeginThen, BeginElse, EndElse, EndProgram, perform}
 pub use Rattle.emission.specs.declared.state.State.{State}
 pub use Rattle.emission.specs.declared.state.State.TheVariants.{Next, Start, Label, LetWord, LetName, LetEnd, GoWord, ToWord, ToName, OfWord, OfNames, OfComma, ReadWord, ReadNames, ReadComma, PrintWord, PrintList, LeftSide, RightSide, ThenPart, ElsePart, Operand, AfterOperand, Group}
 
@@ -53,8 +55,8 @@ table PrintWord =
     (on (sign sign_of.Open) (call_two OpenGroup Operand Group PrintList) stop))
 table PrintList = on (sign sign_of.Comma) (call PrintValue Operand PrintList) stop
 table LeftSide =
-    on (sign sign_of.Greater) (call Greater Operand RightSide)
-    (on (sign sign_of.Equal) (call Equal Operand RightSide) (on (sign sign_of.Less) (call Less Operand RightSide) stop))
+    on (sign sign_of.Greater) (call (Compare relation.Greater) Operand RightSide)
+    (on (sign sign_of.Equal) (call (Compare relation.Equal) Operand RightSide) (on (sign sign_of.Less) (call (Compare relation.Less) Operand RightSide) stop))
 table RightSide = on (keyword Then) (call BeginThen Start ThenPart) stop
 table ThenPart = on (keyword Else) (call BeginElse Start ElsePart) stop
 table ElsePart = stop
@@ -62,8 +64,8 @@ table Operand =
     at_name (λ n. to PushVariable AfterOperand) (at_number (λ n. to PushNumber AfterOperand)
     (on (sign sign_of.Open) (call OpenGroup Operand Group) stop))
 table AfterOperand =
-    on (sign sign_of.Times) (to Times Operand) (on (sign sign_of.Over) (to Over Operand)
-    (on (sign sign_of.Plus) (to Plus Operand) (on (sign sign_of.Minus) (to Minus Operand) stop)))
+    on (sign sign_of.Times) (to (Operate operator.Times) Operand) (on (sign sign_of.Over) (to (Operate operator.Over) Operand)
+    (on (sign sign_of.Plus) (to (Operate operator.Plus) Operand) (on (sign sign_of.Minus) (to (Operate operator.Minus) Operand) stop)))
 table Group = on (sign sign_of.Close) (to CloseGroup AfterOperand) stop
 
 -- what a state does when it returns, at a token that its rows do not have; some states do not return

@@ -1,4 +1,7 @@
 // What the translator does to a draft at a token, or when it leaves a state.
+use trees::operator::Operator;
+use trees::relation::Relation;
+
 #[derive(Clone, Copy, PartialEq, Eq, Debug)]
 pub enum Action {
     Nothing,
@@ -25,15 +28,10 @@ pub enum Action {
     PushNumber,
     OpenGroup,
     CloseGroup,
-    Plus,
-    Minus,
-    Times,
-    Over,
+    Operate(Operator),
     EndExpression,
     // the relation of a comparison
-    Greater,
-    Equal,
-    Less,
+    Compare(Relation),
     // THEN, ELSE, and the end of an IF
     BeginThen,
     BeginElse,

@@ -6,6 +6,8 @@ ghost use Rattle.emission.specs.Classes.{all_moves, class_move, letters, meaning
 use crate::action::Action;
 use crate::moves::Move;
 use crate::state::State;
+use trees::operator::Operator;
+use trees::relation::Relation;
 
 // A row for each state, a column for each class: names, numbers, the keywords, the signs, other bytes.
 const TABLE: [[u8; 26]; 24] = [
@@ -74,18 +76,30 @@ const MOVES: [Move; 45] = [
         State::PrintList,
     ),
     Move::Call(Action::PrintValue, State::Operand, State::PrintList),
-    Move::Call(Action::Greater, State::Operand, State::RightSide),
-    Move::Call(Action::Equal, State::Operand, State::RightSide),
-    Move::Call(Action::Less, State::Operand, State::RightSide),
+    Move::Call(
+        Action::Compare(Relation::Greater),
+        State::Operand,
+        State::RightSide,
+    ),
+    Move::Call(
+        Action::Compare(Relation::Equal),
+        State::Operand,
+        State::RightSide,
+    ),
+    Move::Call(
+        Action::Compare(Relation::Less),
+        State::Operand,
+        State::RightSide,
+    ),
     Move::Call(Action::BeginThen, State::Start, State::ThenPart),
     Move::Call(Action::BeginElse, State::Start, State::ElsePart),
     Move::Go(Action::PushVariable, State::AfterOperand),
     Move::Go(Action::PushNumber, State::AfterOperand),
     Move::Call(Action::OpenGroup, State::Operand, State::Group),
-    Move::Go(Action::Plus, State::Operand),
-    Move::Go(Action::Minus, State::Operand),
-    Move::Go(Action::Times, State::Operand),
-    Move::Go(Action::Over, State::Operand),
+    Move::Go(Action::Operate(Operator::Plus), State::Operand),
+    Move::Go(Action::Operate(Operator::Minus), State::Operand),
+    Move::Go(Action::Operate(Operator::Times), State::Operand),
+    Move::Go(Action::Operate(Operator::Over), State::Operand),
     Move::Go(Action::CloseGroup, State::AfterOperand),
 ];
 
