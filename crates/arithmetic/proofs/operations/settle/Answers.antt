@@ -11,13 +11,14 @@ between : (lo hi x : ℤ) → SFits w32 lo → SFits w32 hi → SFits w64 x →
 between lo hi x f g h p q = (grind (arith, ints), grind (arith, ints), grind (arith, ints))
 
 -- between the bounds a number is fitted to itself
-pub returns-then-exact-high : goal.returns-then-exact-high
-returns-then-exact-high g c =
+pub returns-then-exact-HIGHEST : goal.returns-then-exact-HIGHEST
+returns-then-exact-HIGHEST g c =
     let x = c.args.exact in
     let w = g.N.Arithmetic.words in
+    let met = g.met.N.Arithmetic in
     let f : SFits w64 x = search rules in
-    let lo : SFits w32 c.low.result = search rules in
-    let hi : SFits w32 c.high.result = search rules in
-    let b = between c.low.result c.high.result x lo hi f c.if-low-exact.true c.if-exact-high.true in
-    let word : Word w x = (subst (λ l. l ≤ℤ x) c.low.ensures b.0, subst (λ h. x ≤ℤ h) c.high.ensures b.1) in
-    ap (λ z. to_z w32 (of_z w32 z)) (to_z-of_z w64 x f) ∙ to_z-of_z w32 x b.2 ∙ sym (g.met.N.Arithmetic.lawful.same x word)
+    let lo : SFits w32 c.LOWEST.result = search rules in
+    let hi : SFits w32 c.HIGHEST.result = search rules in
+    let b = between c.LOWEST.result c.HIGHEST.result x lo hi f c.if-LOWEST-exact.true c.if-exact-HIGHEST.true in
+    let word : Word w x = (subst (λ l. l ≤ℤ x) (c.LOWEST.ensures ∙ met.bounds.0) b.0, subst (λ h. x ≤ℤ h) (c.HIGHEST.ensures ∙ met.bounds.1) b.1) in
+    ap (λ z. to_z w32 (of_z w32 z)) (to_z-of_z w64 x f) ∙ to_z-of_z w32 x b.2 ∙ sym (met.lawful.same x word)
