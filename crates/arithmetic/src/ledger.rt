@@ -1,4 +1,5 @@
 // The ledger word: eight digits and a sign. It stops at its bounds.
+ghost use Rattle.std.specs.Prelude.{pos, negsuc, refl};
 ghost use Rattle.arithmetic.specs.Stopping.{stopping};
 ghost use Rattle.arithmetic.specs.Stops.{stopping_lawful};
 
@@ -11,25 +12,17 @@ impl Arithmetic for Ledger {
 
     const HIGHEST: i32 = 99_999_999;
 
+    ghost LOWEST = { negsuc 99999998 };
+
+    ghost HIGHEST = { pos 99999999 };
+
     ghost words = { stopping };
+
+    ghost bounds = { (refl, refl) };
 
     ghost lawful = { stopping_lawful };
 
-    fn low() -> i32 {
-        Self::LOWEST
-    }
-
-    fn high() -> i32 {
-        Self::HIGHEST
-    }
-
     fn fit(n: i64) -> i32 {
-        if n > Self::high() as i64 {
-            Self::high()
-        } else if n < Self::low() as i64 {
-            Self::low()
-        } else {
-            n as i32
-        }
+        n.clamp(Self::LOWEST as i64, Self::HIGHEST as i64) as i32
     }
 }

@@ -2,7 +2,7 @@
 // and the two arithmetics that come with the part. It knows nothing of hosts, texts or programs.
 #![tactic(auto)]
 
-ghost use Rattle.std.specs.Prelude.{◌≡◌};
+ghost use Rattle.std.specs.Prelude.{◌≡◌, ℤ};
 ghost use Rattle.arithmetic.specs.Words.{Words, Lawful};
 
 pub mod ledger;
@@ -10,25 +10,25 @@ pub mod operations;
 pub mod wrapped;
 
 // An arithmetic: its bounds, and how it fits a whole number to a word between them.
-// What it means is the ghost member `words`, and what it owes is the law `lawful`.
+// What it means is the ghost member `words`, and what it owes are the laws `bounds` and `lawful`.
 pub trait Arithmetic {
     // The lowest word, and the highest.
     const LOWEST: i32;
 
     const HIGHEST: i32;
 
+    ghost LOWEST: { ℤ };
+
+    ghost HIGHEST: { ℤ };
+
     ghost words: { Words };
-
-    // The two constants once more, with the meaning that no clause can give a constant.
-    fn low() -> i32
-        ensures { result ≡ words.lowest };
-
-    fn high() -> i32
-        ensures { result ≡ words.highest };
 
     // The word that a number is fitted to.
     fn fit(n: i64) -> i32
         ensures { result ≡ words.fit n };
+
+    // The two constants are the bounds of the words.
+    ghost bounds: { (LOWEST ≡ words.lowest) × (HIGHEST ≡ words.highest) };
 
     ghost lawful: { Lawful words };
 }

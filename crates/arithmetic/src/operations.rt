@@ -9,13 +9,14 @@ use super::Arithmetic;
 fn settle<N: Arithmetic>(exact: i64) -> i32
     ensures { result ≡ N.Arithmetic.words.fit exact }
 {
-    if N::low() as i64 <= exact && exact <= N::high() as i64 {
+    if N::LOWEST as i64 <= exact && exact <= N::HIGHEST as i64 {
         exact as i32
     } else {
         N::fit(exact)
     }
 }
 
+// Four functions and not one over an operation: each has its own exact result and its own rule, and a quotient's is by cases.
 pub fn sum<N: Arithmetic>(a: i32, b: i32) -> i32
     ensures { result ≡ sum_of N.Arithmetic.words a b }
 {

@@ -1,4 +1,5 @@
 // The wrapped word: the low 32 bits of a number, signed.
+ghost use Rattle.std.specs.Prelude.{pos, negsuc, refl};
 ghost use Rattle.arithmetic.specs.Wrapping.{wrapping};
 ghost use Rattle.arithmetic.specs.Wraps.{wrapping_lawful};
 
@@ -11,17 +12,15 @@ impl Arithmetic for Wrapped {
 
     const HIGHEST: i32 = 2_147_483_647;
 
+    ghost LOWEST = { negsuc 2147483647 };
+
+    ghost HIGHEST = { pos 2147483647 };
+
     ghost words = { wrapping };
 
+    ghost bounds = { (refl, refl) };
+
     ghost lawful = { wrapping_lawful };
-
-    fn low() -> i32 {
-        Self::LOWEST
-    }
-
-    fn high() -> i32 {
-        Self::HIGHEST
-    }
 
     fn fit(n: i64) -> i32 {
         // The low 32 bits and no more, on purpose.

@@ -1,4 +1,4 @@
--- Numbers in plain decimals. `signed z` of the library is "-" where z is negative, and then its digits without leading zeros.
+-- Numbers in plain decimals: `decimal n` are the digits of n without leading zeros, and `signed z` has "-" before them where z is negative.
 use Rattle.std.specs.Prelude.{ℕ, zero, suc, ◌+◌, ◌/◌, ◌%◌, cond, List, [], ◌∷◌, ◌++◌, length, take, drop, nat_le}
 pub use Rattle.std.specs.Fmt.{decimal, signed_decimal as signed}
 

@@ -1,26 +1,16 @@
 // Numbers as plain decimals in lent bytes: how long one is, and how it is written. It knows nothing of hosts.
 #![tactic(auto)]
 
-ghost use Rattle.std.specs.Prelude.{◌≡◌, ℕ, ◌+◌, ◌-◌, ◌^◌, ◌<◌, ◌≤◌, List, [], ◌∷◌, ◌++◌, length, ℤ, nat_le};
+ghost use Rattle.std.specs.Prelude.{◌≡◌, ℕ, ◌+◌, ◌-◌, ◌^◌, ◌<◌, ◌≤◌, List, [], ◌∷◌, ◌++◌, length, ℤ, is_ok, nat_le};
 ghost use Rattle.decimal.specs.Digits.{decimal, signed, last_digits, overwritten, written};
 
 // How many digits a number has; 0 has one.
+#[tactic(auto, using(crate::proofs::Lasts::digits_by_log))]
 fn digits(n: u32) -> usize
     ensures value { result ≡ length (decimal n) }
     ensures bound { (1 ≤ result) × (result ≤ 10) }
 {
-    match n {
-        0..=9 => 1,
-        10..=99 => 2,
-        100..=999 => 3,
-        1_000..=9_999 => 4,
-        10_000..=99_999 => 5,
-        100_000..=999_999 => 6,
-        1_000_000..=9_999_999 => 7,
-        10_000_000..=99_999_999 => 8,
-        100_000_000..=999_999_999 => 9,
-        _ => 10,
-    }
+    n.max(1).ilog10() as usize + 1
 }
 
 // How many bytes a number takes in plain decimals.
@@ -33,26 +23,30 @@ pub fn width(n: i32) -> usize
 }
 
 // Writes the last `count` digits of `n` from `start` on.
+#[tactic(auto, using(crate::proofs::Writes::all_to_write, crate::proofs::Writes::none_to_write, crate::proofs::Writes::turn))]
 fn write_digits(out: &mut [u8], start: usize, count: usize, mut n: u32)
     requires { start + count ≤ length out.old }
     ensures { out.new ≡ overwritten out.old start (last_digits count n) }
 {
-    let mut left = count;
-    while left > 0 {
-        left -= 1;
-        out[start + left] = b'0' + (n % 10) as u8;
+    for place in (start..start + count).rev() {
+        out[place] = b'0' + (n % 10) as u8;
         n /= 10;
     }
 }
 
-// Writes a number from `start` on, where it fits; else nothing changes. Answers whether it fits.
-pub fn write(out: &mut [u8], start: usize, n: i32) -> bool
-    ensures fits { result ≡ nat_le (start + length (signed n)) (length out.old) }
+// The bytes from a place on are too few for a number.
+#[derive(Clone, Copy, PartialEq, Eq, Debug)]
+pub struct NoRoom;
+
+// Writes a number from `start` on, where it fits; else nothing changes.
+#[tactic(auto, using(crate::proofs::Writes::written_below, crate::proofs::Writes::written_from))]
+pub fn write(out: &mut [u8], start: usize, n: i32) -> Result<(), NoRoom>
+    ensures fits { is_ok result ≡ nat_le (start + length (signed n)) (length out.old) }
     ensures after { out.new ≡ written out.old start (signed n) }
 {
     let width = width(n);
-    if start > out.len() || width > out.len() - start {
-        return false;
+    if out.len().saturating_sub(start) < width {
+        return Err(NoRoom);
     }
     if n < 0 {
         out[start] = b'-';
@@ -60,5 +54,5 @@ pub fn write(out: &mut [u8], start: usize, n: i32) -> bool
     } else {
         write_digits(out, start, width, n.unsigned_abs());
     }
-    true
+    Ok(())
 }

@@ -11,7 +11,7 @@ use std::fmt;
 #[derive(Clone, Copy, PartialEq, Eq, Debug)]
 pub enum Refusal {
     // Lent memory is shorter than the call needs.
-    ShortMemory,
+    ShortMemory = 1,
     // A text is longer than 32,768 bytes.
     LongText,
     // No program begins with the tokens up to this place.
@@ -55,27 +55,7 @@ impl Refusal {
     pub fn number(self) -> u8
         ensures { result ≡ numbered self }
     {
-        match self {
-            Refusal::ShortMemory => 1,
-            Refusal::LongText => 2,
-            Refusal::NoProgram => 3,
-            Refusal::LongName => 4,
-            Refusal::DuplicateLabel => 5,
-            Refusal::MixedKind => 6,
-            Refusal::TooManyCells => 7,
-            Refusal::TooManyLabels => 8,
-            Refusal::TooManyOperators => 9,
-            Refusal::TooDeep => 10,
-            Refusal::TooManyTargets => 11,
-            Refusal::MissingLabel => 12,
-            Refusal::LongCode => 13,
-            Refusal::NothingLoaded => 14,
-            Refusal::BadBudget => 15,
-            Refusal::RunClosed => 16,
-            Refusal::BadLine => 17,
-            Refusal::Corrupt => 18,
-            Refusal::ShortOutput => 19,
-        }
+        self as u8
     }
 }
 

@@ -22,8 +22,8 @@ fn all_equal(pairs: &[(i32, i32)]) -> Result<(), Fail> {
 #[test]
 fn wrapped_words() -> Result<(), Fail> {
     all_equal(&[
-        (Wrapped::low(), LOW),
-        (Wrapped::high(), HIGH),
+        (Wrapped::LOWEST, LOW),
+        (Wrapped::HIGHEST, HIGH),
         (sum::<Wrapped>(HIGH, 1), LOW),
         (difference::<Wrapped>(LOW, 1), HIGH),
         (product::<Wrapped>(65_536, 65_536), 0),
@@ -37,8 +37,8 @@ fn wrapped_words() -> Result<(), Fail> {
 #[test]
 fn ledger_words() -> Result<(), Fail> {
     all_equal(&[
-        (Ledger::low(), -99_999_999),
-        (Ledger::high(), 99_999_999),
+        (Ledger::LOWEST, -99_999_999),
+        (Ledger::HIGHEST, 99_999_999),
         (sum::<Ledger>(99_999_999, 1), 99_999_999),
         (sum::<Ledger>(99_999_998, 1), 99_999_999),
         (difference::<Ledger>(-99_999_999, 1), -99_999_999),

@@ -1,26 +1,27 @@
 -- The numbers of a lawful text have at most 18 digits.
-use Rattle.std.proofs.Common.{◌≡◌, ℕ, zero, suc, ◌+◌, ◌-◌, ◌*◌, ◌<◌, true, false, ltb, List, [], ◌∷◌, length, ℤ, pos, neg_ℤ, nat_abs, sym, refl, ap, ◌∙◌, subst, arith}
+use Rattle.std.proofs.Common.{◌≡◌, ℕ, zero, suc, ◌+◌, ◌-◌, ◌*◌, ◌^◌, ◌<◌, ◌≤◌, true, false, ltb, List, [], ◌∷◌, length, ℤ, pos, neg_ℤ, nat_abs, refl, ap, ◌∙◌, subst, arith}
+use Rattle.std.proofs.Math.Nat.{pow-le-pow_right, pow-succ'}
 use Rattle.std.proofs.lemmas.Bool.{and_parts}
 use Rattle.std.proofs.lemmas.Bool.Decides.{nat_tests}
 use Rattle.lines.specs.Form.{digit, all_digits, number_after, number_of, Numeral, Line, plain, negative, Lines, none, more}
 use Rattle.lines.specs.Reading.{Start, lawful_from, numbers}
 use Rattle.lines.proofs.Bytes.{digit_bounds}
 use Rattle.lines.proofs.Forms.{from_start}
-use Rattle.lines.proofs.Steps.{power, power_grows}
 
 -- digits behind a number of j digits make one of so many digits more
-bounded : (ds : List ℕ) (n j k : ℕ) → all_digits ds ≡ true → n < power j → k ≡ length ds + j → number_after n ds < power k
-bounded [] n j k d h e = subst (λ i. n < power i) (sym e ∙ omega arith) (subst (λ i. n < power i) (omega (arith, e)) h)
+bounded : (ds : List ℕ) (n j k : ℕ) → all_digits ds ≡ true → n < 10 ^ j → k ≡ length ds + j → number_after n ds < 10 ^ k
+bounded [] n j k d h e = let z : j ≡ k = omega (arith, e) in subst (λ i. n < 10 ^ i) z h
 bounded (b ∷ ds) n j k d h e =
     let p = and_parts (digit b) (all_digits ds) d in
     let i = digit_bounds b p.0 in
-    let l : n < power j = h in
-    bounded ds (10 * n + (b - 48)) (suc j) k p.1 (omega (arith, l, i.0, i.1)) (omega (arith, e))
+    let l : n < 10 ^ j = h in
+    let t : 10 ^ suc j ≡ 10 * 10 ^ j = pow-succ' 10 j in
+    bounded ds (10 * n + (b - 48)) (suc j) k p.1 (omega (arith, l, t, i.0, i.1)) (omega (arith, e))
 
 numeral_below : (ds : List ℕ) → Numeral ds → number_of ds < 1000000000000000000
 numeral_below ds n =
     let b = bounded ds 0 0 (length ds) n.digits (omega arith) (omega arith) in
-    let g = power_grows (length ds) 18 n.few in
+    let g : 10 ^ length ds ≤ 10 ^ 18 = pow-le-pow_right {n = 10} (omega arith) {i = length ds} {j = 18} n.few in
     omega (arith, b, g)
 
 abs_neg : (n : ℕ) → nat_abs (neg_ℤ (pos n)) ≡ n

@@ -1,13 +1,10 @@
 -- The form by rules and the form by bytes are one.
 use Rattle.std.proofs.Common.{◌≡◌, ℕ, suc, ◌+◌, ◌-◌, ◌*◌, ◌<◌, ◌≤◌, Bool, true, false, cond, eqb, List, [], ◌∷◌, ◌++◌, length, ℤ, Some, None, Option, sym, refl, ap, ◌∙◌, subst, append_assoc, arith, length-append}
-use Rattle.std.proofs.lemmas.Bool.{and_parts, and_from}
+use Rattle.std.proofs.lemmas.Bool.{and_parts, and_from, false≢true}
 use Rattle.std.proofs.lemmas.Bool.Decides.{nat_tests}
 use Rattle.lines.specs.Form.{digit, all_digits, number_after, number_of, Numeral, Line, plain, negative, Lines, none, more}
 use Rattle.lines.specs.Reading.{Stage, Start, Digits, after_digits, moved, ends, at_start, lawful_from, signed, numbers, FormHolds}
 use Rattle.lines.proofs.Bytes.{Turn, ended, longer, broken, turn, at_end, at_digit, digit_bounds, numbers_digit, Opening, minus, other, opening}
-
-pub not_true : false ≡ true → ⊥
-not_true e = grind arith
 
 -- digits and then an end lead to a line's start, with their number
 through : (ds t : List ℕ) (k n : ℕ) (m : Bool) → all_digits ds ≡ true → 1 ≤ k + length ds → k + length ds ≤ 18 →
@@ -93,7 +90,7 @@ after_digit ds b t d h l =
     ap (λ k. lawful_from (Digits k) t) (length_push ds b) ∙ sym (ap (λ s. at_start (ends s t)) (at_digit (length ds) b d h)) ∙ l
 
 none_lawful : (o : Option Stage) (t : List ℕ) → o ≡ None → at_start (ends o t) ≡ true → ⊥
-none_lawful o t e h = not_true (ap (λ s. at_start (ends s t)) (sym e) ∙ h)
+none_lawful o t e h = false≢true (ap (λ s. at_start (ends s t)) (sym e) ∙ h)
 
 lead_minus : (t : List ℕ) (b : ℕ) → b ≡ 45 → Lines (lead true ++ ([] ++ t)) (numbers true 0 t) → Lines (b ∷ t) (numbers false 0 (b ∷ t))
 unfolding lead
@@ -125,7 +122,7 @@ by_opening b t i (other e) h =
     plain_lead (b ∷ t) (numbers false 0 (b ∷ t)) (by_turn b t i [] false refl (omega arith) (turn 0 b) (ap (λ s. at_start (ends s t)) (sym e) ∙ h))
 
 made : (t : List ℕ) → Made t
-made [] = record { start = λ h. none; inside = λ ds m d f h. absurd (not_true h) }
+made [] = record { start = λ h. none; inside = λ ds m d f h. absurd (false≢true h) }
 made (b ∷ t) = let i = made t in record { start = by_opening b t i (opening b); inside = λ ds m d f h. by_turn b t i ds m d f (turn (length ds) b) h }
 
 pub from_start : (t : List ℕ) → lawful_from Start t ≡ true → Lines t (numbers false 0 t)

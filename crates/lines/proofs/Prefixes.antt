@@ -1,9 +1,10 @@
 -- Beginnings of lawful texts: exactly those whose bytes lead to some stage.
 use Rattle.std.proofs.Common.{◌≡◌, ℕ, zero, suc, true, false, List, [], ◌∷◌, ◌++◌, Some, None, Option, sym, refl, ap, ◌∙◌, arith}
+use Rattle.std.proofs.lemmas.Bool.{false≢true}
 use Rattle.lines.specs.Reading.{Stage, Start, Digits, moved, ends, at_start, lawful_from, numbers}
 use Rattle.lines.specs.Checking.{Begins}
 use Rattle.lines.proofs.Bytes.{at_end}
-use Rattle.lines.proofs.Forms.{lines_read, from_start, not_true}
+use Rattle.lines.proofs.Forms.{lines_read, from_start}
 
 pub ends_append : (s : Option Stage) (xs ys : List ℕ) → ends s (xs ++ ys) ≡ ends (ends s xs) ys
 ends_append None [] ys = refl
@@ -30,4 +31,4 @@ begins t s e =
 
 pub never_begins : (t : List ℕ) → ends (Some Start) t ≡ None → Begins t → ⊥
 never_begins t e b =
-    not_true (ap (λ o. at_start (ends o b.0)) (sym e) ∙ ap at_start (sym (ends_append (Some Start) t b.0)) ∙ (lines_read b.2).0)
+    false≢true (ap (λ o. at_start (ends o b.0)) (sym e) ∙ ap at_start (sym (ends_append (Some Start) t b.0)) ∙ (lines_read b.2).0)

@@ -14,21 +14,17 @@ use fault::{Fault, Refusal};
 use stage::Stage;
 
 // The count of lines, or refusal 17 at the first byte that no lawful text has there, or at the end of a text that breaks off.
+#[tactic(auto, using(crate::proofs::Checks::breaks_here, crate::proofs::Checks::breaks_off))]
 pub fn check(text: &[u8]) -> Result<usize, Fault>
     ensures { Checked text.now result }
 {
     let mut stage = Stage::Start;
     let mut count = 0usize;
     for (i, byte) in text.iter().enumerate() {
-        match stage.after(*byte) {
-            Some(next) => stage = next,
-            None => {
-                return Err(Fault {
-                    refusal: Refusal::BadLine,
-                    place: i,
-                });
-            }
-        }
+        stage = stage.after(*byte).ok_or(Fault {
+            refusal: Refusal::BadLine,
+            place: i,
+        })?;
         if *byte == b'\n' {
             count += 1;
         }
@@ -43,8 +39,7 @@ pub fn check(text: &[u8]) -> Result<usize, Fault>
 }
 
 // The form of lines by its rules, and as it is read byte by byte, are one.
-pub fn form_holds() -> u8
+#[tactic(auto, using(crate::proofs::Forms::form_holds_lem))]
+pub fn form_holds()
     ensures { FormHolds }
-{
-    0
-}
+{}

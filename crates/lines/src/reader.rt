@@ -3,6 +3,7 @@ ghost use Rattle.std.specs.Prelude.{◌≡◌, ℕ, ◌≤◌, true, length, dro
 ghost use Rattle.lines.specs.Reading.{Start, lawful_from};
 
 // Those from `at` on are to be read, and they are whole lines.
+// It keeps the whole text beside `at`, since it promises that its loan stays the same.
 #[derive(Drop)]
 pub struct Reader<'t> {
     pub(crate) text: &'t [u8],

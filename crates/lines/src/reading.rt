@@ -6,21 +6,23 @@ ghost use Rattle.lines.specs.Readers.{to_read, LineRead};
 use super::check;
 use super::reader::Reader;
 
-// The number that the digits from `start` on write, up to byte 10, and the offset behind that byte.
-fn read_digits(text: &[u8], start: usize) -> (u64, usize)
-    requires { lawful_from (Digits 0) (drop start text.now) ≡ true }
+// The number that the digits at the beginning of these lines write, and how many bytes they take with the byte 10 behind them.
+#[tactic(auto, using(crate::proofs::Steps::within_first, crate::proofs::Steps::in_line, crate::proofs::Steps::bounds_here, crate::proofs::Steps::within_next, crate::proofs::Steps::lawful_end, crate::proofs::Steps::numbers_end))]
+fn read_digits(lines: &[u8]) -> (u64, usize)
+    requires { lawful_from (Digits 0) lines.now ≡ true }
     ensures short { result.0 < 1000000000000000000 }
-    ensures within { result.1 ≤ length text.now }
-    ensures lawful { lawful_from Start (drop result.1 text.now) ≡ true }
-    ensures value { (minus : Bool) → numbers minus 0 (drop start text.now) ≡ signed minus result.0 ∷ numbers false 0 (drop result.1 text.now) }
+    ensures within { result.1 ≤ length lines.now }
+    ensures lawful { lawful_from Start (drop result.1 lines.now) ≡ true }
+    ensures value { (minus : Bool) → numbers minus 0 lines.now ≡ signed minus result.0 ∷ numbers false 0 (drop result.1 lines.now) }
 {
     let mut value = 0u64;
-    let mut at = start;
-    while text[at] != b'\n' {
-        value = value * 10 + (text[at] - b'0') as u64;
-        at += 1;
+    for (i, byte) in lines.iter().enumerate() {
+        if *byte == b'\n' {
+            return (value, i + 1);
+        }
+        value = value * 10 + (*byte - b'0') as u64;
     }
-    (value, at + 1)
+    unreachable!()
 }
 
 impl<'t> Reader<'t> {
@@ -29,10 +31,7 @@ impl<'t> Reader<'t> {
         ensures lines { to_read result ≡ lines_of text.now }
         ensures lent { result.text ≡ text.entry }
     {
-        let at = match check(text) {
-            Ok(_) => 0,
-            Err(_) => text.len(),
-        };
+        let at = if check(text).is_ok() { 0 } else { text.len() };
         Reader { text, at }
     }
 
@@ -41,18 +40,11 @@ impl<'t> Reader<'t> {
         ensures line { LineRead (to_read self.old) result (to_read self.new) }
         ensures lent { self.new.text ≡ self.old.text }
     {
-        let text = self.text;
-        if self.at >= text.len() {
-            return None;
-        }
-        if text[self.at] == b'-' {
-            let (value, end) = read_digits(text, self.at + 1);
-            self.at = end;
-            Some(-(value as i64))
-        } else {
-            let (value, end) = read_digits(text, self.at);
-            self.at = end;
-            Some(value as i64)
-        }
+        let minus = *self.text.get(self.at)? == b'-';
+        let start = self.at + usize::from(minus);
+        let (value, length) = read_digits(&self.text[start..]);
+        self.at = start + length;
+        let value = value as i64;
+        Some(if minus { -value } else { value })
     }
 }

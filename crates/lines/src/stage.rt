@@ -21,17 +21,9 @@ impl Stage {
         match (self, byte) {
             (Stage::Start, b'-') => Some(Stage::Digits(0)),
             (Stage::Start, b'0'..=b'9') => Some(Stage::Digits(1)),
-            (Stage::Start, _) => None,
-            (Stage::Digits(0), b'\n') => None,
-            (Stage::Digits(_), b'\n') => Some(Stage::Start),
-            (Stage::Digits(count), b'0'..=b'9') => {
-                if count < MOST {
-                    Some(Stage::Digits(count + 1))
-                } else {
-                    None
-                }
-            }
-            (Stage::Digits(_), _) => None,
+            (Stage::Digits(count), b'\n') if count > 0 => Some(Stage::Start),
+            (Stage::Digits(count), b'0'..=b'9') if count < MOST => Some(Stage::Digits(count + 1)),
+            _ => None,
         }
     }
 }

@@ -8,20 +8,16 @@ ghost use Rattle.vectors.specs.Fields.{NoEnd, LineSplit, Payload};
 pub fn split_line(text: &[u8]) -> Option<(&[u8], &[u8])>
     ensures { LineSplit text.now result }
 {
-    for (i, byte) in text.iter().enumerate() {
-        if *byte == b'\n' {
-            return Some((&text[0..i], &text[i + 1..text.len()]));
-        }
-    }
-    None
+    let end = text.iter().position(|byte| *byte == b'\n')?;
+    Some((&text[..end], &text[end + 1..]))
 }
 
 // The first `count` bytes of a text, which byte 10 must follow, and what follows that.
 pub fn split_payload(text: &[u8], count: usize) -> Option<(&[u8], &[u8])>
     ensures { Payload text.now count result }
 {
-    if count >= text.len() || text[count] != b'\n' {
+    if *text.get(count)? != b'\n' {
         return None;
     }
-    Some((&text[0..count], &text[count + 1..text.len()]))
+    Some((&text[..count], &text[count + 1..]))
 }

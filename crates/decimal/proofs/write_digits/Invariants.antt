@@ -1,13 +1,8 @@
-use Rattle.std.proofs.Common.{◌≡◌, ◌+◌, ◌≤◌, ◌++◌, length, take, drop}
-use Rattle.decimal.specs.Digits.{last_digits}
+use Rattle.std.proofs.Common.{◌≡◌, ◌≤◌}
+use Rattle.decimal.specs.Digits.{last_digits, overwritten}
+use Rattle.decimal.proofs.Writes.{to_write}
 use Rattle.decimal.proofs.write_digits.Given as goal
 
--- what is still to be written, put in its place, makes the same of the bytes throughout
-abbrev pub invariant-loop-left : goal.invariant-loop-left
-invariant-loop-left l =
-    (l.start + l.left ≤ length l.out) ×
-    (take l.start l.out ++ (last_digits l.left l.n ++ drop (l.start + l.left) l.out)
-    ≡ take l.start l.initial.out ++ (last_digits l.initial.left l.initial.n ++ drop (l.start + l.initial.left) l.initial.out))
-
-abbrev pub decreases-loop-left : goal.decreases-loop-left
-decreases-loop-left l = l.left
+-- with the digits that are still to be written, the bytes are what they are to be throughout
+abbrev pub invariant-loop-place : goal.invariant-loop-place
+invariant-loop-place l = (l.start ≤ l.place) × (to_write l.out l.start l.place l.n ≡ overwritten l.initial.out l.start (last_digits l.count l.initial.n))

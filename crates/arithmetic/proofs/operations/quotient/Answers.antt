@@ -1,9 +1,8 @@
-use Rattle.std.proofs.Common.{◌≡◌, false, cond, ℤ, pos, negsuc, sym, refl, ap, ◌∙◌, arith, w32, w64, SFits, of_z, rules}
-use lib.Signed.{quot_z}
+use Rattle.std.proofs.Common.{◌≡◌, false, ℤ, pos, negsuc, refl, arith, w32, w64, SFits, of_z}
 use Rattle.std.proofs.lemmas.Bool.Decides.{nat_tests}
+use Rattle.std.proofs.lemmas.Int.{ints, to_z-of_z}
 use Rattle.arithmetic.specs.Words.{is_zero}
 use Rattle.arithmetic.specs.Wraps.{quot_fits}
-use Rattle.std.proofs.lemmas.Int.{ints, to_z-of_z}
 use Rattle.arithmetic.proofs.operations.quotient.Goals as goal
 
 not_zero : (b : ℤ) → (of_z w32 b ≡ 0 → ⊥) → is_zero b ≡ false
@@ -12,11 +11,10 @@ not_zero (negsuc n) h = refl
 
 pub returns : goal.returns
 returns g c =
-    let r : SFits w32 c.settle.result = search rules in
     let x = c.ranges.a in
     let y = c.ranges.b in
     let a : SFits w64 c.args.a = omega (arith, ints) in
     let b : SFits w64 c.args.b = omega (arith, ints) in
     let p = quot_fits c.args.a c.args.b x in
     let z = not_zero c.args.b c.if-b-eq0.false in
-    to_z-of_z w32 c.settle.result r ∙ simp to_z-of_z at c.settle.ensures ∙ ap (λ t. cond t c.args.a (g.N.Arithmetic.words.fit (quot_z c.args.a c.args.b))) (sym z)
+    grind (arith, to_z-of_z)

@@ -1,5 +1,0 @@
-use Rattle.lines.proofs.Forms.{form_holds_lem}
-use Rattle.lines.proofs.form_holds.Goals as goal
-
-pub returns : goal.returns
-returns c = form_holds_lem
