@@ -35,7 +35,7 @@ impl<'n, 'm> Tray<'n, 'm> {
     pub fn printed(&self) -> &[Mark]
         ensures { result.now ≡ (tray_meaning self.now).marks }
     {
-        &self.marks[0..self.count]
+        &self.marks[..self.count]
     }
 
     // Puts a mark behind those that are printed.
@@ -44,6 +44,7 @@ impl<'n, 'm> Tray<'n, 'm> {
         ensures after { tray_meaning self.new ≡ marked 1 mark (tray_meaning self.old) }
         ensures kept { TrayKeeps self.old self.new }
     {
+        // Of a place that `get_mut` lends, nothing is known once it is written.
         if self.count >= self.marks.len() {
             return Err(NoPaper);
         }
@@ -58,28 +59,22 @@ impl Host for Tray<'_, '_> {
 
     ghost weight = { unit_weight };
 
+    ghost keeps = { TrayKeeps };
+
     ghost light = { tray_light };
 
     ghost short = { tray_short };
-
-    ghost keeps = { TrayKeeps };
 
     ghost still = { tray_still };
 
     ghost along = { tray_along };
 
-    fn weigh(&self, mark: Mark) -> u8 {
-        match mark {
-            Mark::Number(_) => 1,
-            Mark::LineEnd => 1,
-        }
+    fn weigh(&self, _mark: Mark) -> u8 {
+        1
     }
 
     fn take(&mut self) -> Option<i64> {
-        if self.next >= self.numbers.len() {
-            return None;
-        }
-        let line = self.numbers[self.next];
+        let line = *self.numbers.get(self.next)?;
         if !is_short(line) {
             return None;
         }
