@@ -65,7 +65,7 @@ impl<'i, 'o, 'l> TextHost<'i, 'o, 'l> {
     }
 }
 
-// Writes a mark's bytes from `start` on.
+// Writes a mark's bytes from `start` on, where there is room for them.
 fn write(out: &mut [u8], start: usize, mark: Mark)
     requires { start + byte_weight mark ≤ length out.old }
     ensures { out.new ≡ overwritten out.old start (mark_bytes mark) }

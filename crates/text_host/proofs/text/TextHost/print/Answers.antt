@@ -1,4 +1,4 @@
-use Rattle.std.proofs.Common.{◌≡◌, ℕ, ◌+◌, ◌-◌, ◌<◌, ◌≤◌, min, length, set, refl, ap, ◌∙◌, le-leb, sym, arith, length-set, drop-set-lt}
+use Rattle.std.proofs.Common.{◌+◌, refl, arith, length-set, drop-set-lt}
 use Rattle.std.proofs.lemmas.List.{take-set}
 use Rattle.lines.specs.Readers.{to_read}
 use Rattle.text_host.specs.declared.text.TextHost.{TextHost}
@@ -6,13 +6,13 @@ use Rattle.text_host.proofs.Printing.{Holds, low, between, after, meant, front, 
 use Rattle.text_host.proofs.text.TextHost.print.Goals as goal
 
 held : (h : TextHost) → Holds h.output.now h.written h.lengths.now h.count
-held h = record { room = h.room; fewer = h.fewer; sum = h.sum; text = h.text }
+held h = record { room = h.room; fewer = h.fewer; whole = h.whole; text = h.text }
 
 pub invariant_of-self : goal.invariant_of-self
 invariant_of-self c =
     let s = c.args.self.now in
     let t = between _ _ _ _ c.args.mark (held s) c.requires (omega arith) _ c.write.ensures in
-    record { room = t.room; fewer = t.fewer; sum = t.sum; text = t.text }
+    record { room = t.room; fewer = t.fewer; whole = t.whole; text = t.text }
 
 pub bounds-self-self : goal.bounds-self-self
 bounds-self-self c = low _ _ _ _ c.args.mark (held c.args.self.now) c.requires (omega arith)
@@ -21,7 +21,7 @@ pub invariant_of-self-2 : goal.invariant_of-self-2
 invariant_of-self-2 c =
     let s = c.args.self.now in
     let t = after _ _ _ _ c.args.mark (held s) c.requires (omega arith) _ c.write.ensures c.weigh-weight.result _ c.weigh-weight.ensures (omega arith) in
-    record { room = t.room; fewer = t.fewer; sum = t.sum; text = t.text }
+    record { room = t.room; fewer = t.fewer; whole = t.whole; text = t.text }
 
 pub returns-clause-after : goal.returns-clause-after
 returns-clause-after c =
