@@ -11,5 +11,6 @@ pub struct Tray<'n, 'm> {
     pub(crate) next: usize,
     pub(crate) marks: &'m mut [Mark],
     pub(crate) count: usize,
-    ghost ok: { (next ≤ length numbers.now) × (count ≤ length marks.now) },
+    ghost within: { next ≤ length numbers.now },
+    ghost room: { count ≤ length marks.now },
 }

@@ -21,7 +21,11 @@ impl<'n, 'm> Tray<'n, 'm> {
     // A new tray: all numbers wait, up to the first of more than 18 digits, and nothing is printed.
     pub fn new(numbers: &'n [i64], marks: &'m mut [Mark]) -> Tray<'n, 'm>
         ensures meaning { tray_meaning result ≡ meaning (up_to_long numbers.now) [] (length marks.old) }
-        ensures lent { (result.numbers ≡ numbers.entry) × ((result.marks.ghost_name ≡ marks.entry.ghost_name) × ((result.marks.now ≡ marks.old) × ((result.next ≡ 0) × (result.count ≡ 0)))) }
+        ensures numbers { result.numbers ≡ numbers.entry }
+        ensures marks_lent { result.marks.ghost_name ≡ marks.entry.ghost_name }
+        ensures marks { result.marks.now ≡ marks.old }
+        ensures next { result.next ≡ 0 }
+        ensures count { result.count ≡ 0 }
     {
         Tray {
             numbers,

@@ -20,8 +20,12 @@ impl<'i, 'o, 'l> TextHost<'i, 'o, 'l> {
     pub fn new(input: &'i [u8], output: &'o mut [u8], lengths: &'l mut [u8]) -> TextHost<'i, 'o, 'l>
         ensures meaning { text_meaning result ≡ meaning (lines_of input.now) [] (min (length output.old) (length lengths.old)) }
         ensures input { result.input.text ≡ input.entry }
-        ensures output { (result.output.ghost_name ≡ output.entry.ghost_name) × ((result.output.now ≡ output.old) × (result.written ≡ 0)) }
-        ensures lengths { (result.lengths.ghost_name ≡ lengths.entry.ghost_name) × ((result.lengths.now ≡ lengths.old) × (result.count ≡ 0)) }
+        ensures output_lent { result.output.ghost_name ≡ output.entry.ghost_name }
+        ensures output { result.output.now ≡ output.old }
+        ensures written { result.written ≡ 0 }
+        ensures lengths_lent { result.lengths.ghost_name ≡ lengths.entry.ghost_name }
+        ensures lengths { result.lengths.now ≡ lengths.old }
+        ensures count { result.count ≡ 0 }
     {
         TextHost {
             input: Reader::new(input),
