@@ -1,6 +1,5 @@
 -- One line more of a tally: from the state of the loop to the next, and to each end.
-use Rattle.std.proofs.Common.{◌≡◌, ℕ, zero, suc, ◌+◌, ◌-◌, ◌<◌, ◌≤◌, true, false, List, [], ◌∷◌, ◌++◌, length, take, drop, ℤ, pos, Some, None, sym, refl, ap, ◌∙◌, append_assoc, append-nil, arith, length-append, take_all, take-add}
-use lib.Seq.{take-nil}
+use Rattle.std.proofs.Common.{◌≡◌, ℕ, zero, suc, ◌+◌, ◌-◌, ◌<◌, ◌≤◌, Bool, true, false, subst, List, [], ◌∷◌, ◌++◌, length, take, drop, ℤ, pos, Some, sym, refl, ap, ◌∙◌, append_assoc, arith, length-append, take-add}
 use Rattle.arithmetic.specs.Words.{Words}
 use Rattle.host.specs.Meaning.{Meaning, first, rest, taken}
 use Rattle.host.specs.declared.mark.Mark.{Mark}
@@ -28,11 +27,6 @@ here (x ∷ xs) (suc i) z e =
       front = ap (λ k. take k (x ∷ xs)) s ∙ ap (λ l. x ∷ l) h.front;
     }
 
-pub none_here : (ls : List ℤ) (i : ℕ) → None ≡ first (drop i ls) → length ls ≤ i
-none_here [] i e = omega arith
-none_here (x ∷ xs) zero e = let n : ◌≡◌ {A = ℕ} 0 1 = cc in absurd (omega arith)
-none_here (x ∷ xs) (suc i) e = let h = none_here xs i e in omega (arith, h)
-
 module _ (w : Words) where
   total_push : (t : ℤ) (xs : List ℤ) (z : ℤ) → total_of w t (xs ++ (z ∷ [])) ≡ plus w (total_of w t xs) z
   total_push t [] z = refl
@@ -51,42 +45,10 @@ pub record State (w : Words) (weight : Mark → ℕ) (most : ℕ) (old : Meaning
   pub goes : as_paper_goes weight old.paper (running w (pos 0) (take most old.lines))
       ≡ running w (pos 0) (take i old.lines) ++ as_paper_goes weight new.paper (running w t (take (most - i) (drop i old.lines)))
 
-drop_end : (xs : List ℤ) (n : ℕ) → length xs ≤ n → drop n xs ≡ []
-drop_end [] zero h = refl
-drop_end [] (suc n) h = refl
-drop_end (x ∷ xs) zero h = absurd (omega arith)
-drop_end (x ∷ xs) (suc n) h = drop_end xs n (omega arith)
-
 never : true ≡ false → ⊥
 never e = grind arith
 
--- nothing is to come
-done : (w : Words) (weight : Mark → ℕ) (paper k : ℕ) (t : ℤ) (ms : List Mark) (ls : List ℤ) → take k ls ≡ [] → ms ++ as_paper_goes weight paper (running w t (take k ls)) ≡ ms
-done w weight paper k t ms ls e = ap (λ l. ms ++ as_paper_goes weight paper (running w t l)) e ∙ append-nil ms
-
 module _ (w : Words) (weight : Mark → ℕ) (most : ℕ) (old : Meaning) (i : ℕ) (t : ℤ) (new : Meaning) (s : State w weight most old i t new) where
-  -- nothing is to come, and so many lines are told
-  pub finished : (last : Meaning) → last.lines ≡ drop i old.lines → last.marks ≡ new.marks → i ≤ most → take (most - i) (drop i old.lines) ≡ [] → take i old.lines ≡ take most old.lines →
-      Tallied w weight most old (record { lines = i; total = t; complete = true }) last
-  finished last gone marks few none all =
-      record {
-        few = few;
-        inside = s.inside;
-        gone = gone;
-        total = s.total;
-        printed = marks ∙ s.marks ∙ ap (λ l. old.marks ++ l) (sym (s.goes ∙ done w weight new.paper (most - i) t (running w (pos 0) (take i old.lines)) (drop i old.lines) none));
-        complete = λ c. (all, marks ∙ s.marks ∙ ap (λ l. old.marks ++ running w (pos 0) l) all);
-        partly = λ c. absurd (never c);
-      }
-
-  -- no line waits
-  pub ended : None ≡ first new.lines → i ≤ most → Tallied w weight most old (record { lines = i; total = t; complete = true }) (taken new)
-  ended e few =
-      let far = none_here old.lines i (e ∙ ap first s.gone) in
-      let end = drop_end old.lines i far in
-      finished (taken new) (ap rest (s.gone ∙ end) ∙ sym end) refl few (ap (take (most - i)) end ∙ take-nil (most - i))
-      (take_all i old.lines far ∙ sym (take_all most old.lines (omega (arith, far, few))))
-
   module _ (z : ℤ) (waits : Some z ≡ first new.lines) (few : i < most) where
     at : Here old.lines i z
     at = here old.lines i z (waits ∙ ap first s.gone)
@@ -114,9 +76,9 @@ module _ (w : Words) (weight : Mark → ℕ) (most : ℕ) (old : Meaning) (i : �
         ≡ running w (pos 0) (take i old.lines) ++ as_paper_goes weight new.paper (Number (plus w t z) ∷ LineEnd ∷ running w (plus w t z) (take (most - (i + 1)) (drop (i + 1) old.lines)))
     goes_on = s.goes ∙ ap (λ l. running w (pos 0) (take i old.lines) ++ as_paper_goes weight new.paper l) unrolled
 
-    pub next : line_fits weight (plus w t z) (taken new) ≡ true → State w weight most old (i + 1) (plus w t z) (with_line weight (plus w t z) (taken new))
+    goes_next : line_fits weight (plus w t z) (taken new) ≡ true → State w weight most old (i + 1) (plus w t z) (with_line weight (plus w t z) (taken new))
     unfolding to_come
-    next f =
+    goes_next f =
         let r = running w (pos 0) (take i old.lines) in
         let p = whole_line weight (plus w t z) (taken new) to_come f in
         record {
@@ -140,10 +102,10 @@ module _ (w : Words) (weight : Mark → ℕ) (most : ℕ) (old : Meaning) (i : �
         ap (λ u. running w (pos 0) (take i old.lines) ++ running w u (take (most - i) (drop i old.lines))) (sym s.total) ∙
         ap (λ l. running w (pos 0) (take i old.lines) ++ l) unrolled
 
-    pub stopped : line_fits weight (plus w t z) (taken new) ≡ false →
+    stops : line_fits weight (plus w t z) (taken new) ≡ false →
         Tallied w weight most old (record { lines = i + 1; total = plus w t z; complete = false }) (with_line weight (plus w t z) (taken new))
     unfolding to_come
-    stopped f =
+    stops f =
         let r = running w (pos 0) (take i old.lines) in
         let p = part_line weight (plus w t z) (taken new) to_come f in
         let g = as_paper_goes weight new.paper (Number (plus w t z) ∷ LineEnd ∷ to_come) in
@@ -158,14 +120,19 @@ module _ (w : Words) (weight : Mark → ℕ) (most : ℕ) (old : Meaning) (i : �
           partly = λ c. omega (arith, ap length goes_on, ap length all_marks, length-append r g, length-append r (Number (plus w t z) ∷ LineEnd ∷ to_come), short);
         }
 
--- as many lines as are wanted
-pub enough : (w : Words) (weight : Mark → ℕ) (most : ℕ) (old : Meaning) (t : ℤ) (new : Meaning) → State w weight most old most t new →
-    Tallied w weight most old (record { lines = most; total = t; complete = true }) new
-enough w weight most old t new s =
-    let z : most - most ≡ 0 = omega arith in
-    finished w weight most old most t new s new s.gone refl (omega arith) (ap (λ k. take k (drop most old.lines)) z) refl
+    -- the total with the line, what the host means once the line is taken and once the total is printed
+    module _ (u : ℤ) (mid last : Meaning) (p : u ≡ plus w t z) (q : mid ≡ taken new) (r : last ≡ with_line weight u mid) where
+      printed_is : last ≡ with_line weight (plus w t z) (taken new)
+      printed_is = r ∙ (λ j. with_line weight (p j) (q j))
 
-pub outset : (w : Words) (weight : Mark → ℕ) (most : ℕ) (h : Meaning) → State w weight most h 0 (pos 0) h
-outset w weight most h =
-    let z : most ≡ most - 0 = omega arith in
-    record { inside = omega arith; gone = refl; total = refl; marks = sym (append-nil h.marks); goes = ap (λ k. as_paper_goes weight h.paper (running w (pos 0) (take k h.lines))) z }
+      fit_is : (b : Bool) → b ≡ line_fits weight u mid → line_fits weight (plus w t z) (taken new) ≡ b
+      fit_is b f = sym (f ∙ (λ j. line_fits weight (p j) (q j)))
+
+      pub next : true ≡ line_fits weight u mid → State w weight most old (i + 1) u last
+      next f = subst (λ v. State w weight most old (i + 1) v last) (sym p) (subst (State w weight most old (i + 1) (plus w t z)) (sym printed_is) (goes_next (fit_is true f)))
+
+      pub stopped : (k : ℕ) → k ≡ i + 1 → false ≡ line_fits weight u mid → Tallied w weight most old (record { lines = k; total = u; complete = false }) last
+      stopped k e f =
+          subst (λ n. Tallied w weight most old (record { lines = n; total = u; complete = false }) last) (sym e)
+          (subst (λ v. Tallied w weight most old (record { lines = i + 1; total = v; complete = false }) last) (sym p)
+          (subst (Tallied w weight most old (record { lines = i + 1; total = plus w t z; complete = false })) (sym printed_is) (stops (fit_is false f))))
