@@ -1,5 +1,6 @@
 -- One line more of a tally: from the state of the loop to the next, and to each end.
 use Rattle.std.proofs.Common.{◌≡◌, ℕ, zero, suc, ◌+◌, ◌-◌, ◌<◌, ◌≤◌, Bool, true, false, subst, List, [], ◌∷◌, ◌++◌, length, take, drop, ℤ, pos, Some, sym, refl, ap, ◌∙◌, append_assoc, arith, length-append, take-add}
+use Rattle.std.proofs.lemmas.List.Sums.{fold_push}
 use Rattle.arithmetic.specs.Words.{Words}
 use Rattle.host.specs.Meaning.{Meaning, first, rest, taken}
 use Rattle.host.specs.declared.mark.Mark.{Mark}
@@ -9,14 +10,14 @@ use Rattle.totals.specs.Lines.{line_fits, with_line}
 use Rattle.totals.proofs.Paper.{whole_line, part_line}
 
 -- a line that waits at i
-pub record Here (ls : List ℤ) (i : ℕ) (z : ℤ) : Type 0 where
+record Here (ls : List ℤ) (i : ℕ) (z : ℤ) : Type 0 where
   low : i < length ls
   now : drop i ls ≡ z ∷ drop (i + 1) ls
   front : take (i + 1) ls ≡ take i ls ++ (z ∷ [])
 
-pub here : (ls : List ℤ) (i : ℕ) (z : ℤ) → Some z ≡ first (drop i ls) → Here ls i z
-here [] zero z e = let n : ◌≡◌ {A = ℕ} 0 1 = cc in absurd (omega arith)
-here [] (suc i) z e = let n : ◌≡◌ {A = ℕ} 0 1 = cc in absurd (omega arith)
+here : (ls : List ℤ) (i : ℕ) (z : ℤ) → Some z ≡ first (drop i ls) → Here ls i z
+here [] zero z e = absurd (cc)
+here [] (suc i) z e = absurd (cc)
 here (x ∷ xs) zero z e = let s : x ≡ z = cc in record { low = omega arith; now = ap (λ y. y ∷ xs) s; front = ap (λ y. y ∷ []) s }
 here (x ∷ xs) (suc i) z e =
     let h = here xs i z e in
@@ -28,10 +29,6 @@ here (x ∷ xs) (suc i) z e =
     }
 
 module _ (w : Words) where
-  total_push : (t : ℤ) (xs : List ℤ) (z : ℤ) → total_of w t (xs ++ (z ∷ [])) ≡ plus w (total_of w t xs) z
-  total_push t [] z = refl
-  total_push t (x ∷ xs) z = total_push (plus w t x) xs z
-
   running_append : (t : ℤ) (xs ys : List ℤ) → running w t (xs ++ ys) ≡ running w t xs ++ running w (total_of w t xs) ys
   running_append t [] ys = refl
   running_append t (x ∷ xs) ys = ap (λ l. Number (plus w t x) ∷ LineEnd ∷ l) (running_append (plus w t x) xs ys)
@@ -44,9 +41,6 @@ pub record State (w : Words) (weight : Mark → ℕ) (most : ℕ) (old : Meaning
   pub marks : new.marks ≡ old.marks ++ running w (pos 0) (take i old.lines)
   pub goes : as_paper_goes weight old.paper (running w (pos 0) (take most old.lines))
       ≡ running w (pos 0) (take i old.lines) ++ as_paper_goes weight new.paper (running w t (take (most - i) (drop i old.lines)))
-
-never : true ≡ false → ⊥
-never e = grind arith
 
 module _ (w : Words) (weight : Mark → ℕ) (most : ℕ) (old : Meaning) (i : ℕ) (t : ℤ) (new : Meaning) (s : State w weight most old i t new) where
   module _ (z : ℤ) (waits : Some z ≡ first new.lines) (few : i < most) where
@@ -65,7 +59,7 @@ module _ (w : Words) (weight : Mark → ℕ) (most : ℕ) (old : Meaning) (i : �
     gone_on = ap rest (s.gone ∙ at.now)
 
     total_on : plus w t z ≡ total_of w (pos 0) (take (i + 1) old.lines)
-    total_on = ap (λ u. plus w u z) s.total ∙ sym (total_push w (pos 0) (take i old.lines) z) ∙ ap (total_of w (pos 0)) (sym at.front)
+    total_on = ap (λ u. plus w u z) s.total ∙ sym (fold_push (plus w) (pos 0) (take i old.lines) z) ∙ ap (total_of w (pos 0)) (sym at.front)
 
     marks_on : running w (pos 0) (take (i + 1) old.lines) ≡ running w (pos 0) (take i old.lines) ++ (Number (plus w t z) ∷ LineEnd ∷ [])
     marks_on =
@@ -116,7 +110,7 @@ module _ (w : Words) (weight : Mark → ℕ) (most : ℕ) (old : Meaning) (i : �
           gone = p.lines ∙ gone_on;
           total = total_on;
           printed = p.marks ∙ ap (λ l. l ++ g) s.marks ∙ append_assoc old.marks r g ∙ ap (λ l. old.marks ++ l) (sym goes_on);
-          complete = λ c. absurd (never (sym c));
+          complete = λ c. absurd (cc);
           partly = λ c. omega (arith, ap length goes_on, ap length all_marks, length-append r g, length-append r (Number (plus w t z) ∷ LineEnd ∷ to_come), short);
         }
 
