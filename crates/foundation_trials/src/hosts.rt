@@ -7,12 +7,12 @@ use text_host::text::TextHost;
 
 // Prints marks, each with whether there should be paper for it.
 fn print_all<H: Host>(host: &mut H, marks: &[(Mark, bool)]) -> Result<(), Fail> {
-    for (mark, room) in marks {
-        let printed = match *mark {
+    for &(mark, room) in marks {
+        let printed = match mark {
             Mark::Number(word) => host.put(word),
             Mark::LineEnd => host.close(),
         };
-        if printed.is_ok() != *room {
+        if printed.is_ok() != room {
             return Err(Fail::new("paper, or none, where it should not be"));
         }
     }
@@ -45,7 +45,7 @@ fn tray_lines_end_at_a_long_one(rt: HostRuntime) {
     for line in [Some(5), Some(-999_999_999_999_999_999), None, None] {
         assert_eq!(rt; tray.take(), line);
     }
-    let smallest = [-9_223_372_036_854_775_807 - 1];
+    let smallest = [i64::MIN];
     let mut other = Tray::new(&smallest, &mut []);
     assert_eq!(rt; other.take(), None);
 }
@@ -54,7 +54,7 @@ fn tray_lines_end_at_a_long_one(rt: HostRuntime) {
 fn tray_marks(rt: HostRuntime) -> Result<(), Fail> {
     let mut marks = [Mark::Number(9); 3];
     let mut tray = Tray::new(&[], &mut marks);
-    assert_eq!(rt; tray.weigh(Mark::Number(-2_147_483_648)), 1);
+    assert_eq!(rt; tray.weigh(Mark::Number(i32::MIN)), 1);
     let all = [
         (Mark::Number(36), true),
         (Mark::LineEnd, true),
@@ -66,14 +66,14 @@ fn tray_marks(rt: HostRuntime) -> Result<(), Fail> {
     Ok(())
 }
 
-// A text host over so many bytes and lengths prints the marks, and the text is then this.
-fn prints(bytes: usize, lengths: usize, marks: &[(Mark, bool)], text: &[u8]) -> Result<(), Fail> {
-    let mut output = [0u8; 16];
-    let mut sizes = [0u8; 16];
-    if bytes > 16 || lengths > 16 {
-        return Err(Fail::new("more room than there is"));
-    }
-    let mut host = TextHost::new(b"8\n", &mut output[0..bytes], &mut sizes[0..lengths]);
+// A text host over these bytes and lengths prints the marks, and the text is then this.
+fn prints(
+    output: &mut [u8],
+    lengths: &mut [u8],
+    marks: &[(Mark, bool)],
+    text: &[u8],
+) -> Result<(), Fail> {
+    let mut host = TextHost::new(b"8\n", output, lengths);
     print_all(&mut host, marks)?;
     if host.take() != Some(8) || host.printed() != text {
         return Err(Fail::new("another line, or another text"));
@@ -83,26 +83,26 @@ fn prints(bytes: usize, lengths: usize, marks: &[(Mark, bool)], text: &[u8]) -> 
 
 #[test]
 fn text_at_the_edge_of_its_room() -> Result<(), Fail> {
-    let low = Mark::Number(-2_147_483_648);
-    let high = Mark::Number(2_147_483_647);
+    let low = Mark::Number(i32::MIN);
+    let high = Mark::Number(i32::MAX);
     let exact = [
         (low, true),
         (Mark::Number(10), false),
         (Mark::LineEnd, true),
         (Mark::LineEnd, false),
     ];
-    prints(12, 12, &exact, b"-2147483648\n")?;
+    prints(&mut [0; 12], &mut [0; 12], &exact, b"-2147483648\n")?;
     prints(
-        10,
-        12,
+        &mut [0; 10],
+        &mut [0; 12],
         &[(low, false), (high, true), (Mark::LineEnd, false)],
         b"2147483647",
     )?;
     prints(
-        9,
-        3,
+        &mut [0; 9],
+        &mut [0; 3],
         &[(Mark::Number(100), true), (Mark::LineEnd, false)],
         b"100",
     )?;
-    prints(0, 16, &[(Mark::LineEnd, false)], b"")
+    prints(&mut [], &mut [0; 16], &[(Mark::LineEnd, false)], b"")
 }

@@ -1,14 +1,14 @@
 -- What a tray means.
-use Rattle.std.specs.Prelude.{◌≡◌, ℕ, ◌-◌, ◌≤◌, Bool, true, false, cond, List, [], ◌∷◌, length, take, drop, ℤ, refl}
+use Rattle.std.specs.Prelude.{◌≡◌, ℕ, ◌-◌, ◌≤◌, Bool, true, false, cond, List, [], ◌∷◌, length, take, drop, ℤ, take_while, refl}
 use Rattle.std.proofs.Common.{◌∙◌, le_refl, le_trans, arith}
+use Rattle.std.proofs.lemmas.List.Sums.{take_while-cons}
 use Rattle.host.specs.Parts.{take_earlier, drop_later}
 use Rattle.host.specs.Meaning.{Meaning, meaning, Mark, short, ShortLines, Light}
 use Rattle.host.specs.declared.tray.Tray.{Tray}
 
 -- the numbers up to the first of more than 18 digits
 abbrev pub up_to_long : List ℤ → List ℤ
-up_to_long [] = []
-up_to_long (z ∷ zs) = cond (short z) (z ∷ up_to_long zs) []
+up_to_long zs = take_while short zs
 
 -- every weight is 1
 abbrev pub unit_weight : Mark → ℕ
@@ -49,7 +49,7 @@ short_if z zs false e s = tt
 
 pub up_to_long_short : (zs : List ℤ) → ShortLines (up_to_long zs)
 up_to_long_short [] = tt
-up_to_long_short (z ∷ zs) = short_if z (up_to_long zs) (short z) refl (up_to_long_short zs)
+up_to_long_short (z ∷ zs) = rw take_while-cons (short_if z (up_to_long zs) (short z) refl (up_to_long_short zs))
 
 pub tray_short : (t : Tray) → ShortLines (tray_meaning t).lines
 tray_short t = up_to_long_short (drop t.next t.numbers.now)

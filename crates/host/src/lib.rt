@@ -16,26 +16,17 @@ use mark::Mark;
 pub struct NoPaper;
 
 // A host. What it means is the ghost member `meaning`: the lines that wait, the marks that stand printed, the paper left.
-// A host of your own gives the seven ghost members and proves each method against the clauses here.
+// A host of your own gives the three ghost members above the methods, proves each method against the clauses here, and
+// each of the four laws below them.
 pub trait Host {
     ghost meaning: { Self → Meaning };
 
     // The weight of each mark, fixed for the type of host.
     ghost weight: { Printed → ℕ };
 
-    // A mark weighs from 1 to 11.
-    ghost light: { Light weight };
-
-    // A waiting line has at most 18 digits.
-    ghost short: { (h : Self) → ShortLines (meaning h).lines };
-
     // What calls keep of the host and of the memory that it is lent, from one state to a later one: by this the lender
-    // learns what its memory holds once the host is gone. It holds of no call at all, and of calls in a row.
+    // learns what its memory holds once the host is gone.
     ghost keeps: { Self → Self → Type 0 };
-
-    ghost still: { (a : Self) → keeps a a };
-
-    ghost along: { (a b c : Self) → keeps a b → keeps b c → keeps a c };
 
     // Answers a mark's weight.
     fn weigh(&self, mark: Mark) -> u8
@@ -58,4 +49,15 @@ pub trait Host {
         ensures room { is_ok result ≡ fits (weight line_end) (meaning self.old) }
         ensures after { meaning self.new ≡ marked (weight line_end) line_end (meaning self.old) }
         ensures kept { keeps self.old self.new };
+
+    // A mark weighs from 1 to 11.
+    ghost light: { Light weight };
+
+    // A waiting line has at most 18 digits.
+    ghost short: { (h : Self) → ShortLines (meaning h).lines };
+
+    // No call at all keeps the host, and calls in a row keep it where each does.
+    ghost still: { (a : Self) → keeps a a };
+
+    ghost along: { (a b c : Self) → keeps a b → keeps b c → keeps a c };
 }

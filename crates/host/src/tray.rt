@@ -4,11 +4,13 @@ ghost use Rattle.std.specs.Prelude.{ℕ, ◌≤◌, length};
 use super::mark::Mark;
 
 // The numbers from `next` on are to be taken; the first `count` marks are printed.
+// Both lists are the caller's memory, so a tray owns none of it, and where it stands in each is a number beside it.
 #[derive(Drop)]
 pub struct Tray<'n, 'm> {
     pub(crate) numbers: &'n [i64],
     pub(crate) next: usize,
     pub(crate) marks: &'m mut [Mark],
     pub(crate) count: usize,
-    ghost ok: { (next ≤ length numbers.now) × (count ≤ length marks.now) },
+    ghost within: { next ≤ length numbers.now },
+    ghost room: { count ≤ length marks.now },
 }

@@ -21,7 +21,11 @@ impl<'n, 'm> Tray<'n, 'm> {
     // A new tray: all numbers wait, up to the first of more than 18 digits, and nothing is printed.
     pub fn new(numbers: &'n [i64], marks: &'m mut [Mark]) -> Tray<'n, 'm>
         ensures meaning { tray_meaning result ≡ meaning (up_to_long numbers.now) [] (length marks.old) }
-        ensures lent { (result.numbers ≡ numbers.entry) × ((result.marks.ghost_name ≡ marks.entry.ghost_name) × ((result.marks.now ≡ marks.old) × ((result.next ≡ 0) × (result.count ≡ 0)))) }
+        ensures numbers { result.numbers ≡ numbers.entry }
+        ensures marks_lent { result.marks.ghost_name ≡ marks.entry.ghost_name }
+        ensures marks { result.marks.now ≡ marks.old }
+        ensures next { result.next ≡ 0 }
+        ensures count { result.count ≡ 0 }
     {
         Tray {
             numbers,
@@ -35,7 +39,7 @@ impl<'n, 'm> Tray<'n, 'm> {
     pub fn printed(&self) -> &[Mark]
         ensures { result.now ≡ (tray_meaning self.now).marks }
     {
-        &self.marks[0..self.count]
+        &self.marks[..self.count]
     }
 
     // Puts a mark behind those that are printed.
@@ -44,6 +48,7 @@ impl<'n, 'm> Tray<'n, 'm> {
         ensures after { tray_meaning self.new ≡ marked 1 mark (tray_meaning self.old) }
         ensures kept { TrayKeeps self.old self.new }
     {
+        // Of a place that `get_mut` lends, nothing is known once it is written.
         if self.count >= self.marks.len() {
             return Err(NoPaper);
         }
@@ -58,28 +63,22 @@ impl Host for Tray<'_, '_> {
 
     ghost weight = { unit_weight };
 
+    ghost keeps = { TrayKeeps };
+
     ghost light = { tray_light };
 
     ghost short = { tray_short };
-
-    ghost keeps = { TrayKeeps };
 
     ghost still = { tray_still };
 
     ghost along = { tray_along };
 
-    fn weigh(&self, mark: Mark) -> u8 {
-        match mark {
-            Mark::Number(_) => 1,
-            Mark::LineEnd => 1,
-        }
+    fn weigh(&self, _mark: Mark) -> u8 {
+        1
     }
 
     fn take(&mut self) -> Option<i64> {
-        if self.next >= self.numbers.len() {
-            return None;
-        }
-        let line = self.numbers[self.next];
+        let line = *self.numbers.get(self.next)?;
         if !is_short(line) {
             return None;
         }

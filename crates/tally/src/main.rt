@@ -6,6 +6,7 @@ use arithmetic::ledger::Ledger;
 use std::alloc::Global;
 use std::io::{Read, Write};
 use text_host::text::TextHost;
+use totals::Totals;
 
 // A ledger word and its line end take at most this many bytes.
 const LINE: usize = 10;
@@ -16,11 +17,13 @@ fn print_totals(rt: &HostRuntime, heap: Global, note: &[u8], count: usize) -> an
     let mut output = vec![in heap; 0u8; room]?;
     let mut lengths = vec![in heap; 0u8; room]?;
     let mut host = TextHost::new(note, output.as_mut_slice(), lengths.as_mut_slice());
-    let totals = totals::run::<TextHost, Ledger>(&mut host, count);
+    let Totals {
+        lines,
+        total,
+        complete,
+    } = totals::run::<TextHost, Ledger>(&mut host, count);
     rt.stdout().write_all(host.printed())?;
-    let lines = totals.lines;
-    let total = totals.total;
-    if totals.complete {
+    if complete {
         println!(rt; "{lines} lines, total {total}")?;
     } else {
         println!(rt; "no paper after {lines} lines, total {total}")?;

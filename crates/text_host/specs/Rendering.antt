@@ -1,5 +1,5 @@
 -- Marks as text: plain decimals, and byte 10 for a line end; and marks read back from bytes and the marks' lengths.
-use Rattle.std.specs.Prelude.{ℕ, ◌+◌, cond, List, [], ◌∷◌, ◌++◌, length, take, drop, pos, neg_ℤ, ◌==◌}
+use Rattle.std.specs.Prelude.{ℕ, cond, List, [], ◌∷◌, length, take, drop, pos, neg_ℤ, ◌==◌, flat_map}
 use Rattle.std.specs.Fmt.{signed_decimal}
 use Rattle.lines.specs.Form.{number_of}
 use Rattle.host.specs.declared.mark.Mark.{Mark}
@@ -12,8 +12,7 @@ mark_bytes LineEnd = 10 ∷ []
 
 -- the bytes of marks, one after the other
 abbrev pub rendered : List Mark → List ℕ
-rendered [] = []
-rendered (m ∷ ms) = mark_bytes m ++ rendered ms
+rendered ms = flat_map mark_bytes ms
 
 -- a mark weighs as much as it has bytes
 abbrev pub byte_weight : Mark → ℕ
@@ -28,7 +27,3 @@ mark_of (b ∷ bs) = cond (b == 10) LineEnd (cond (b == 45) (Number (neg_ℤ (po
 abbrev pub marks_of : List ℕ → List ℕ → List Mark
 marks_of [] out = []
 marks_of (n ∷ ns) out = mark_of (take n out) ∷ marks_of ns (drop n out)
-
-abbrev pub total : List ℕ → ℕ
-total [] = 0
-total (n ∷ ns) = n + total ns

@@ -2,9 +2,10 @@
 #![tactic(auto)]
 
 ghost use Rattle.std.specs.Prelude.{◌≡◌, ℕ, ◌+◌, ◌-◌, ◌<◌, ◌≤◌, min, [], length, ℤ, pos, is_ok};
-ghost use Rattle.host.specs.Meaning.{Meaning, meaning, fits, marked};
+ghost use Rattle.decimal.specs.Digits.{overwritten};
+ghost use Rattle.host.specs.Meaning.{Meaning, meaning, Printable, fits, marked};
 ghost use Rattle.lines.specs.Reading.{lines_of};
-ghost use Rattle.text_host.specs.Rendering.{byte_weight, rendered, mark_bytes, mark_of};
+ghost use Rattle.text_host.specs.Rendering.{byte_weight, rendered, mark_bytes};
 ghost use Rattle.text_host.specs.Texts.{text_meaning, text_short, TextKeeps, text_still, text_along, text_light};
 
 pub mod text;
@@ -19,8 +20,12 @@ impl<'i, 'o, 'l> TextHost<'i, 'o, 'l> {
     pub fn new(input: &'i [u8], output: &'o mut [u8], lengths: &'l mut [u8]) -> TextHost<'i, 'o, 'l>
         ensures meaning { text_meaning result ≡ meaning (lines_of input.now) [] (min (length output.old) (length lengths.old)) }
         ensures input { result.input.text ≡ input.entry }
-        ensures output { (result.output.ghost_name ≡ output.entry.ghost_name) × ((result.output.now ≡ output.old) × (result.written ≡ 0)) }
-        ensures lengths { (result.lengths.ghost_name ≡ lengths.entry.ghost_name) × ((result.lengths.now ≡ lengths.old) × (result.count ≡ 0)) }
+        ensures output_lent { result.output.ghost_name ≡ output.entry.ghost_name }
+        ensures output { result.output.now ≡ output.old }
+        ensures written { result.written ≡ 0 }
+        ensures lengths_lent { result.lengths.ghost_name ≡ lengths.entry.ghost_name }
+        ensures lengths { result.lengths.now ≡ lengths.old }
+        ensures count { result.count ≡ 0 }
     {
         TextHost {
             input: Reader::new(input),
@@ -42,29 +47,38 @@ impl<'i, 'o, 'l> TextHost<'i, 'o, 'l> {
     pub fn printed(&self) -> &[u8]
         ensures { result.now ≡ rendered (text_meaning self.now).marks }
     {
-        &self.output[0..self.written]
+        &self.output[..self.written]
     }
 
-    // Prints the bytes of one mark, where there is paper for them.
-    fn append(&mut self, bytes: &[u8]) -> Result<(), NoPaper>
-        requires mark { mark_bytes (mark_of bytes.now) ≡ bytes.now }
-        requires some { 1 ≤ length bytes.now }
-        requires few { length bytes.now ≤ 11 }
-        ensures room { is_ok result ≡ fits (length bytes.now) (text_meaning self.old) }
-        ensures after { text_meaning self.new ≡ marked (length bytes.now) (mark_of bytes.now) (text_meaning self.old) }
+    // Prints a mark behind those that are printed.
+    fn print(&mut self, mark: Mark) -> Result<(), NoPaper>
+        requires { Printable mark }
+        ensures room { is_ok result ≡ fits (byte_weight mark) (text_meaning self.old) }
+        ensures after { text_meaning self.new ≡ marked (byte_weight mark) mark (text_meaning self.old) }
         ensures kept { TextKeeps self.old self.new }
     {
-        if bytes.len() > self.paper() {
+        let weight = self.weigh(mark);
+        if usize::from(weight) > self.paper() {
             return Err(NoPaper);
         }
-        let start = self.written;
-        for (i, byte) in bytes.iter().enumerate() {
-            self.output[start + i] = *byte;
-        }
-        self.lengths[self.count] = bytes.len() as u8;
+        write(self.output, self.written, mark);
+        self.lengths[self.count] = weight;
         self.count += 1;
-        self.written = start + bytes.len();
+        self.written += usize::from(weight);
         Ok(())
+    }
+}
+
+// Writes a mark's bytes from `start` on, where there is room for them.
+fn write(out: &mut [u8], start: usize, mark: Mark)
+    requires { start + byte_weight mark ≤ length out.old }
+    ensures { out.new ≡ overwritten out.old start (mark_bytes mark) }
+{
+    match mark {
+        Mark::Number(word) => {
+            let _ = decimal::write(out, start, word);
+        }
+        Mark::LineEnd => out[start] = b'\n',
     }
 }
 
@@ -73,11 +87,11 @@ impl Host for TextHost<'_, '_, '_> {
 
     ghost weight = { byte_weight };
 
+    ghost keeps = { TextKeeps };
+
     ghost light = { text_light };
 
     ghost short = { text_short };
-
-    ghost keeps = { TextKeeps };
 
     ghost still = { text_still };
 
@@ -95,12 +109,10 @@ impl Host for TextHost<'_, '_, '_> {
     }
 
     fn put(&mut self, word: i32) -> Result<(), NoPaper> {
-        let mut digits = [0u8; 11];
-        let _ = decimal::write(&mut digits, 0, word);
-        self.append(&digits[0..decimal::width(word)])
+        self.print(Mark::Number(word))
     }
 
     fn close(&mut self) -> Result<(), NoPaper> {
-        self.append(b"\n")
+        self.print(Mark::LineEnd)
     }
 }

@@ -1,10 +1,11 @@
 // The text host: a host over lines of text and bytes for output. What it keeps true stands in its type.
-ghost use Rattle.std.specs.Prelude.{◌≡◌, ℕ, ◌≤◌, min, length, take};
-ghost use Rattle.text_host.specs.Rendering.{total, marks_of, rendered};
+ghost use Rattle.std.specs.Prelude.{◌≡◌, ℕ, ◌≤◌, min, length, take, sum};
+ghost use Rattle.text_host.specs.Rendering.{marks_of, rendered};
 
 use lines::reader::Reader;
 
 // The first `written` bytes of the output are printed, in `count` marks, whose lengths stand in `lengths`.
+// Both lists are the caller's memory, so a host owns none of it, and how far each is used is a number beside it.
 #[derive(Drop)]
 pub struct TextHost<'i, 'o, 'l> {
     pub(crate) input: Reader<'i>,
@@ -16,6 +17,6 @@ pub struct TextHost<'i, 'o, 'l> {
     ghost room: { written ≤ min (length output.now) (length lengths.now) },
     ghost fewer: { count ≤ written },
     // The lengths are those of the marks, and the bytes are their text.
-    ghost sum: { total (take count lengths.now) ≡ written },
+    ghost whole: { sum (take count lengths.now) ≡ written },
     ghost text: { take written output.now ≡ rendered (marks_of (take count lengths.now) output.now) },
 }

@@ -1,6 +1,6 @@
 -- One line more of a tally: from the state of the loop to the next, and to each end.
-use Rattle.std.proofs.Common.{◌≡◌, ℕ, zero, suc, ◌+◌, ◌-◌, ◌<◌, ◌≤◌, true, false, List, [], ◌∷◌, ◌++◌, length, take, drop, ℤ, pos, Some, None, sym, refl, ap, ◌∙◌, append_assoc, append-nil, arith, length-append, take_all, take-add}
-use lib.Seq.{take-nil}
+use Rattle.std.proofs.Common.{◌≡◌, ℕ, zero, suc, ◌+◌, ◌-◌, ◌<◌, ◌≤◌, Bool, true, false, subst, List, [], ◌∷◌, ◌++◌, length, take, drop, ℤ, pos, Some, sym, refl, ap, ◌∙◌, append_assoc, arith, length-append, take-add}
+use Rattle.std.proofs.lemmas.List.Sums.{fold_push}
 use Rattle.arithmetic.specs.Words.{Words}
 use Rattle.host.specs.Meaning.{Meaning, first, rest, taken}
 use Rattle.host.specs.declared.mark.Mark.{Mark}
@@ -10,14 +10,14 @@ use Rattle.totals.specs.Lines.{line_fits, with_line}
 use Rattle.totals.proofs.Paper.{whole_line, part_line}
 
 -- a line that waits at i
-pub record Here (ls : List ℤ) (i : ℕ) (z : ℤ) : Type 0 where
+record Here (ls : List ℤ) (i : ℕ) (z : ℤ) : Type 0 where
   low : i < length ls
   now : drop i ls ≡ z ∷ drop (i + 1) ls
   front : take (i + 1) ls ≡ take i ls ++ (z ∷ [])
 
-pub here : (ls : List ℤ) (i : ℕ) (z : ℤ) → Some z ≡ first (drop i ls) → Here ls i z
-here [] zero z e = let n : ◌≡◌ {A = ℕ} 0 1 = cc in absurd (omega arith)
-here [] (suc i) z e = let n : ◌≡◌ {A = ℕ} 0 1 = cc in absurd (omega arith)
+here : (ls : List ℤ) (i : ℕ) (z : ℤ) → Some z ≡ first (drop i ls) → Here ls i z
+here [] zero z e = absurd (cc)
+here [] (suc i) z e = absurd (cc)
 here (x ∷ xs) zero z e = let s : x ≡ z = cc in record { low = omega arith; now = ap (λ y. y ∷ xs) s; front = ap (λ y. y ∷ []) s }
 here (x ∷ xs) (suc i) z e =
     let h = here xs i z e in
@@ -28,16 +28,7 @@ here (x ∷ xs) (suc i) z e =
       front = ap (λ k. take k (x ∷ xs)) s ∙ ap (λ l. x ∷ l) h.front;
     }
 
-pub none_here : (ls : List ℤ) (i : ℕ) → None ≡ first (drop i ls) → length ls ≤ i
-none_here [] i e = omega arith
-none_here (x ∷ xs) zero e = let n : ◌≡◌ {A = ℕ} 0 1 = cc in absurd (omega arith)
-none_here (x ∷ xs) (suc i) e = let h = none_here xs i e in omega (arith, h)
-
 module _ (w : Words) where
-  total_push : (t : ℤ) (xs : List ℤ) (z : ℤ) → total_of w t (xs ++ (z ∷ [])) ≡ plus w (total_of w t xs) z
-  total_push t [] z = refl
-  total_push t (x ∷ xs) z = total_push (plus w t x) xs z
-
   running_append : (t : ℤ) (xs ys : List ℤ) → running w t (xs ++ ys) ≡ running w t xs ++ running w (total_of w t xs) ys
   running_append t [] ys = refl
   running_append t (x ∷ xs) ys = ap (λ l. Number (plus w t x) ∷ LineEnd ∷ l) (running_append (plus w t x) xs ys)
@@ -51,42 +42,7 @@ pub record State (w : Words) (weight : Mark → ℕ) (most : ℕ) (old : Meaning
   pub goes : as_paper_goes weight old.paper (running w (pos 0) (take most old.lines))
       ≡ running w (pos 0) (take i old.lines) ++ as_paper_goes weight new.paper (running w t (take (most - i) (drop i old.lines)))
 
-drop_end : (xs : List ℤ) (n : ℕ) → length xs ≤ n → drop n xs ≡ []
-drop_end [] zero h = refl
-drop_end [] (suc n) h = refl
-drop_end (x ∷ xs) zero h = absurd (omega arith)
-drop_end (x ∷ xs) (suc n) h = drop_end xs n (omega arith)
-
-never : true ≡ false → ⊥
-never e = grind arith
-
--- nothing is to come
-done : (w : Words) (weight : Mark → ℕ) (paper k : ℕ) (t : ℤ) (ms : List Mark) (ls : List ℤ) → take k ls ≡ [] → ms ++ as_paper_goes weight paper (running w t (take k ls)) ≡ ms
-done w weight paper k t ms ls e = ap (λ l. ms ++ as_paper_goes weight paper (running w t l)) e ∙ append-nil ms
-
 module _ (w : Words) (weight : Mark → ℕ) (most : ℕ) (old : Meaning) (i : ℕ) (t : ℤ) (new : Meaning) (s : State w weight most old i t new) where
-  -- nothing is to come, and so many lines are told
-  pub finished : (last : Meaning) → last.lines ≡ drop i old.lines → last.marks ≡ new.marks → i ≤ most → take (most - i) (drop i old.lines) ≡ [] → take i old.lines ≡ take most old.lines →
-      Tallied w weight most old (record { lines = i; total = t; complete = true }) last
-  finished last gone marks few none all =
-      record {
-        few = few;
-        inside = s.inside;
-        gone = gone;
-        total = s.total;
-        printed = marks ∙ s.marks ∙ ap (λ l. old.marks ++ l) (sym (s.goes ∙ done w weight new.paper (most - i) t (running w (pos 0) (take i old.lines)) (drop i old.lines) none));
-        complete = λ c. (all, marks ∙ s.marks ∙ ap (λ l. old.marks ++ running w (pos 0) l) all);
-        partly = λ c. absurd (never c);
-      }
-
-  -- no line waits
-  pub ended : None ≡ first new.lines → i ≤ most → Tallied w weight most old (record { lines = i; total = t; complete = true }) (taken new)
-  ended e few =
-      let far = none_here old.lines i (e ∙ ap first s.gone) in
-      let end = drop_end old.lines i far in
-      finished (taken new) (ap rest (s.gone ∙ end) ∙ sym end) refl few (ap (take (most - i)) end ∙ take-nil (most - i))
-      (take_all i old.lines far ∙ sym (take_all most old.lines (omega (arith, far, few))))
-
   module _ (z : ℤ) (waits : Some z ≡ first new.lines) (few : i < most) where
     at : Here old.lines i z
     at = here old.lines i z (waits ∙ ap first s.gone)
@@ -103,7 +59,7 @@ module _ (w : Words) (weight : Mark → ℕ) (most : ℕ) (old : Meaning) (i : �
     gone_on = ap rest (s.gone ∙ at.now)
 
     total_on : plus w t z ≡ total_of w (pos 0) (take (i + 1) old.lines)
-    total_on = ap (λ u. plus w u z) s.total ∙ sym (total_push w (pos 0) (take i old.lines) z) ∙ ap (total_of w (pos 0)) (sym at.front)
+    total_on = ap (λ u. plus w u z) s.total ∙ sym (fold_push (plus w) (pos 0) (take i old.lines) z) ∙ ap (total_of w (pos 0)) (sym at.front)
 
     marks_on : running w (pos 0) (take (i + 1) old.lines) ≡ running w (pos 0) (take i old.lines) ++ (Number (plus w t z) ∷ LineEnd ∷ [])
     marks_on =
@@ -114,9 +70,9 @@ module _ (w : Words) (weight : Mark → ℕ) (most : ℕ) (old : Meaning) (i : �
         ≡ running w (pos 0) (take i old.lines) ++ as_paper_goes weight new.paper (Number (plus w t z) ∷ LineEnd ∷ running w (plus w t z) (take (most - (i + 1)) (drop (i + 1) old.lines)))
     goes_on = s.goes ∙ ap (λ l. running w (pos 0) (take i old.lines) ++ as_paper_goes weight new.paper l) unrolled
 
-    pub next : line_fits weight (plus w t z) (taken new) ≡ true → State w weight most old (i + 1) (plus w t z) (with_line weight (plus w t z) (taken new))
+    goes_next : line_fits weight (plus w t z) (taken new) ≡ true → State w weight most old (i + 1) (plus w t z) (with_line weight (plus w t z) (taken new))
     unfolding to_come
-    next f =
+    goes_next f =
         let r = running w (pos 0) (take i old.lines) in
         let p = whole_line weight (plus w t z) (taken new) to_come f in
         record {
@@ -140,10 +96,10 @@ module _ (w : Words) (weight : Mark → ℕ) (most : ℕ) (old : Meaning) (i : �
         ap (λ u. running w (pos 0) (take i old.lines) ++ running w u (take (most - i) (drop i old.lines))) (sym s.total) ∙
         ap (λ l. running w (pos 0) (take i old.lines) ++ l) unrolled
 
-    pub stopped : line_fits weight (plus w t z) (taken new) ≡ false →
+    stops : line_fits weight (plus w t z) (taken new) ≡ false →
         Tallied w weight most old (record { lines = i + 1; total = plus w t z; complete = false }) (with_line weight (plus w t z) (taken new))
     unfolding to_come
-    stopped f =
+    stops f =
         let r = running w (pos 0) (take i old.lines) in
         let p = part_line weight (plus w t z) (taken new) to_come f in
         let g = as_paper_goes weight new.paper (Number (plus w t z) ∷ LineEnd ∷ to_come) in
@@ -154,18 +110,23 @@ module _ (w : Words) (weight : Mark → ℕ) (most : ℕ) (old : Meaning) (i : �
           gone = p.lines ∙ gone_on;
           total = total_on;
           printed = p.marks ∙ ap (λ l. l ++ g) s.marks ∙ append_assoc old.marks r g ∙ ap (λ l. old.marks ++ l) (sym goes_on);
-          complete = λ c. absurd (never (sym c));
+          complete = λ c. absurd (cc);
           partly = λ c. omega (arith, ap length goes_on, ap length all_marks, length-append r g, length-append r (Number (plus w t z) ∷ LineEnd ∷ to_come), short);
         }
 
--- as many lines as are wanted
-pub enough : (w : Words) (weight : Mark → ℕ) (most : ℕ) (old : Meaning) (t : ℤ) (new : Meaning) → State w weight most old most t new →
-    Tallied w weight most old (record { lines = most; total = t; complete = true }) new
-enough w weight most old t new s =
-    let z : most - most ≡ 0 = omega arith in
-    finished w weight most old most t new s new s.gone refl (omega arith) (ap (λ k. take k (drop most old.lines)) z) refl
+    -- the total with the line, what the host means once the line is taken and once the total is printed
+    module _ (u : ℤ) (mid last : Meaning) (p : u ≡ plus w t z) (q : mid ≡ taken new) (r : last ≡ with_line weight u mid) where
+      printed_is : last ≡ with_line weight (plus w t z) (taken new)
+      printed_is = r ∙ (λ j. with_line weight (p j) (q j))
 
-pub outset : (w : Words) (weight : Mark → ℕ) (most : ℕ) (h : Meaning) → State w weight most h 0 (pos 0) h
-outset w weight most h =
-    let z : most ≡ most - 0 = omega arith in
-    record { inside = omega arith; gone = refl; total = refl; marks = sym (append-nil h.marks); goes = ap (λ k. as_paper_goes weight h.paper (running w (pos 0) (take k h.lines))) z }
+      fit_is : (b : Bool) → b ≡ line_fits weight u mid → line_fits weight (plus w t z) (taken new) ≡ b
+      fit_is b f = sym (f ∙ (λ j. line_fits weight (p j) (q j)))
+
+      pub next : true ≡ line_fits weight u mid → State w weight most old (i + 1) u last
+      next f = subst (λ v. State w weight most old (i + 1) v last) (sym p) (subst (State w weight most old (i + 1) (plus w t z)) (sym printed_is) (goes_next (fit_is true f)))
+
+      pub stopped : (k : ℕ) → k ≡ i + 1 → false ≡ line_fits weight u mid → Tallied w weight most old (record { lines = k; total = u; complete = false }) last
+      stopped k e f =
+          subst (λ n. Tallied w weight most old (record { lines = n; total = u; complete = false }) last) (sym e)
+          (subst (λ v. Tallied w weight most old (record { lines = i + 1; total = v; complete = false }) last) (sym p)
+          (subst (Tallied w weight most old (record { lines = i + 1; total = plus w t z; complete = false })) (sym printed_is) (stops (fit_is false f))))

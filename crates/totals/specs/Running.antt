@@ -1,5 +1,5 @@
 -- Running totals of lines, and what of them stands printed.
-use Rattle.std.specs.Prelude.{◌≡◌, ℕ, ◌-◌, ◌<◌, ◌≤◌, true, false, cond, List, [], ◌∷◌, ◌++◌, length, take, drop, ℤ, pos, nat_le}
+use Rattle.std.specs.Prelude.{◌≡◌, ℕ, ◌-◌, ◌<◌, ◌≤◌, true, false, cond, List, [], ◌∷◌, ◌++◌, length, take, drop, ℤ, pos, nat_le, fold}
 use Rattle.arithmetic.specs.Words.{Words, sum}
 use Rattle.host.specs.Meaning.{Meaning}
 use Rattle.host.specs.declared.mark.Mark.{Mark}
@@ -12,8 +12,7 @@ plus w t z = sum w t (w.fit z)
 
 -- the total of lines, behind the total t
 abbrev pub total_of : Words → ℤ → List ℤ → ℤ
-total_of w t [] = t
-total_of w t (z ∷ zs) = total_of w (plus w t z) zs
+total_of w t zs = fold (plus w) t zs
 
 -- for each line the total so far, and a line end
 abbrev pub running : Words → ℤ → List ℤ → List Mark

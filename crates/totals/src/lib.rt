@@ -12,6 +12,7 @@ use arithmetic::operations::sum;
 use host::{Host, NoPaper};
 
 // How many lines were taken, their total, and whether there was paper for every running total.
+// The count and the total mean the same either way, so whether all is printed is told beside them.
 #[derive(Clone, Copy, PartialEq, Eq, Debug)]
 pub struct Totals {
     pub lines: usize,
@@ -34,34 +35,21 @@ pub fn run<H: Host, N: Arithmetic>(host: &mut H, most: usize) -> Totals
     ensures tallied { Tallied N.Arithmetic.words H.Host.weight most (H.Host.meaning host.old) result (H.Host.meaning host.new) }
     ensures kept { H.Host.keeps host.old host.new }
 {
-    let mut total = 0;
-    for taken in 0..most {
-        match host.take() {
-            Some(line) => {
-                total = sum::<N>(total, N::fit(line));
-                match print_line(host, total) {
-                    Ok(()) => {}
-                    Err(_) => {
-                        return Totals {
-                            lines: taken + 1,
-                            total,
-                            complete: false,
-                        };
-                    }
-                }
-            }
-            None => {
-                return Totals {
-                    lines: taken,
-                    total,
-                    complete: true,
-                };
-            }
+    let mut totals = Totals {
+        lines: 0,
+        total: 0,
+        complete: true,
+    };
+    for _ in 0..most {
+        let Some(line) = host.take() else {
+            break;
+        };
+        totals.lines += 1;
+        totals.total = sum::<N>(totals.total, N::fit(line));
+        if print_line(host, totals.total).is_err() {
+            totals.complete = false;
+            break;
         }
     }
-    Totals {
-        lines: most,
-        total,
-        complete: true,
-    }
+    totals
 }

@@ -17,7 +17,7 @@ returns-then-not-step g c =
     record {
       state = off_run W c.args.code.now c.args.used b d here there more c.step.ensures.state c.if-not-step.ensures.count ∙ c.loop-done.invariant.2;
       count = omega (arith, none, all);
-      kept = g.H.Host.along _ _ _ c.loop-done.invariant.1 c.step.ensures.kept;
+      kept = g.met.H.Host.along _ _ _ c.loop-done.invariant.1 c.step.ensures.kept;
     }
 
 pub loop-done-preserved : goal.loop-done-preserved
@@ -29,7 +29,7 @@ loop-done-preserved g c =
     let there = whole c.step.new.self c.step.new.cells (g.H.Host.meaning c.step.new.host) in
     let more : d < b = omega arith in (
       omega (arith, more),
-      g.H.Host.along _ _ _ c.loop-done.invariant.1 c.step.ensures.kept,
+      g.met.H.Host.along _ _ _ c.loop-done.invariant.1 c.step.ensures.kept,
       on_run W c.args.code.now c.args.used b d here there more c.step.ensures.state ∙ c.loop-done.invariant.2,
       on_count W c.args.code.now c.args.used b d here there more c.step.ensures.state c.if-not-step.ensures.count ∙ c.loop-done.invariant.3,
     )

@@ -12,7 +12,7 @@ returns-in-Ada g c =
       state =
           as_asked (world g.N.Arithmetic.words g.H.Host.weight) (whole c.args.self.now s h) (whole c.ada.new.self s h)
           c.args.instruction (Ada c.in-Ada.a) c.in-Ada.is (c.ada.ensures s h);
-      kept = g.H.Host.still c.args.host.now;
+      kept = g.met.H.Host.still c.args.host.now;
     }
 
 pub returns-in-Sub : goal.returns-in-Sub
@@ -23,7 +23,7 @@ returns-in-Sub g c =
       state =
           as_asked (world g.N.Arithmetic.words g.H.Host.weight) (whole c.args.self.now s h) (whole c.sub.new.self s h)
           c.args.instruction (Sub c.in-Sub.a) c.in-Sub.is (c.sub.ensures s h);
-      kept = g.H.Host.still c.args.host.now;
+      kept = g.met.H.Host.still c.args.host.now;
     }
 
 pub returns-in-Mul : goal.returns-in-Mul
@@ -34,7 +34,7 @@ returns-in-Mul g c =
       state =
           as_asked (world g.N.Arithmetic.words g.H.Host.weight) (whole c.args.self.now s h) (whole c.mul.new.self s h)
           c.args.instruction (Mul c.in-Mul.a) c.in-Mul.is (c.mul.ensures s h);
-      kept = g.H.Host.still c.args.host.now;
+      kept = g.met.H.Host.still c.args.host.now;
     }
 
 pub returns-in-Div : goal.returns-in-Div
@@ -45,7 +45,7 @@ returns-in-Div g c =
       state =
           as_asked (world g.N.Arithmetic.words g.H.Host.weight) (whole c.args.self.now s h) (whole c.div.new.self s h)
           c.args.instruction (Div c.in-Div.a) c.in-Div.is (c.div.ensures s h);
-      kept = g.H.Host.still c.args.host.now;
+      kept = g.met.H.Host.still c.args.host.now;
     }
 
 pub returns-in-Lda : goal.returns-in-Lda
@@ -56,5 +56,5 @@ returns-in-Lda g c =
       state =
           as_asked (world g.N.Arithmetic.words g.H.Host.weight) (whole c.args.self.now s h) (whole c.lda.new.self s h)
           c.args.instruction (Lda c.in-Lda.a) c.in-Lda.is (c.lda.ensures s h);
-      kept = g.H.Host.still c.args.host.now;
+      kept = g.met.H.Host.still c.args.host.now;
     }
