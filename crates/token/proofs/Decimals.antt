@@ -1,9 +1,10 @@
 -- One digit more.
 use Rattle.std.proofs.Common.{◌≡◌, ℕ, ◌+◌, ◌-◌, ◌*◌, ◌^◌, ◌≤◌, Bool, true, cond, leb, List, [], ◌∷◌, ◌++◌, length, ℤ, pos, ◌+ℤ◌, ◌*ℤ◌, Some, None, sym, ap, ◌∙◌, mul_assoc, mul_comm, add-one, arith}
+use mathlib.Core.Logic.{inl, inr}
 use native.Mathlib.Nat.{pow-succ'}
 use Rattle.std.proofs.lemmas.List.{length_push}
-use Rattle.std.proofs.lemmas.Bool.{and_parts, and_from, leb-true}
-use Rattle.token.proofs.Pieces.{Way, holds, fails, way}
+use Rattle.std.proofs.lemmas.Bool.{cases_Bool, and_parts, and_from, leb-true}
+use Rattle.token.proofs.Pieces.{Way}
 use Rattle.arithmetic.specs.Words.{Words, Lawful}
 use Rattle.token.specs.Lexis.{digit}
 use Rattle.token.specs.Numbers.{every, decimal, word}
@@ -31,11 +32,11 @@ word_push w l bs b e =
 
 -- what a digit's value says
 pub digit_some : (b d : ℕ) → Some d ≡ cond (digit b) (Some (b - 48)) None → (digit b ≡ true) × (d ≡ b - 48)
-digit_some b d e = by (way (digit b)) e
+digit_some b d e = by (cases_Bool (digit b)) e
   where
     by : Way (digit b) → Some d ≡ cond (digit b) (Some (b - 48)) None → (digit b ≡ true) × (d ≡ b - 48)
-    by (holds h) e = let f : Some d ≡ Some (b - 48) = rw h at e in (h, cc)
-    by (fails h) e = let f : Some d ≡ None = rw h at e in let z : ◌≡◌ {A = ℕ} 0 1 = cc in absurd (omega arith)
+    by (inl h) e = let f : Some d ≡ Some (b - 48) = rw h at e in (h, cc)
+    by (inr h) e = let f : Some d ≡ None = rw h at e in let z : ◌≡◌ {A = ℕ} 0 1 = cc in absurd (omega arith)
 
 -- the word so far, z, and one digit more
 pub word_more : (w : Words) → Lawful w → (bs : List ℕ) (b d : ℕ) {z r : ℤ} → z ≡ word w bs → digit b ≡ true → d ≡ b - 48 → r ≡ w.fit ((pos 10 *ℤ z) +ℤ pos d) → r ≡ word w (bs ++ (b ∷ []))
