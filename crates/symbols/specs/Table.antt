@@ -159,10 +159,14 @@ is_valued cells v s = of_number s.kind && (nat_lt s.at (length cells) && same_wo
 abbrev pub is_pending : Symbol → Bool
 is_pending s = of_label s.kind && s.at == pending
 
+-- of the first n entries one is the first to answer true, or all answer false, where P relates an entry to its answer
+abbrev pub FoundBy : (Symbol → Bool → Type 0) → List Symbol → ℕ → Option ℕ → Type 0
+FoundBy P xs n None = (k : ℕ) → k < n → P (slice_index_or xs k blank) false
+FoundBy P xs n (Some i) = (i < n) × P (slice_index_or xs i blank) true × ((k : ℕ) → k < i → P (slice_index_or xs k blank) false)
+
 -- one of the first n entries passes a test, or none does
 abbrev pub Found : (Symbol → Bool) → List Symbol → ℕ → Option ℕ → Type 0
-Found test xs n None = (k : ℕ) → k < n → test (slice_index_or xs k blank) ≡ false
-Found test xs n (Some i) = (i < n) × (test (slice_index_or xs i blank) ≡ true) × ((k : ℕ) → k < i → test (slice_index_or xs k blank) ≡ false)
+Found test xs n x = FoundBy (λ e b. test e ≡ b) xs n x
 
 -- Refusals, by what is found.
 

@@ -1,8 +1,10 @@
 // What the table holds, and how a name is used.
 ghost use Rattle.std.specs.Prelude.{◌≡◌};
-ghost use Rattle.symbols.specs.Entries.{kind_number, blank};
+ghost use Rattle.limits.specs.Uses.{is_definition, is_listed, is_label};
+ghost use Rattle.symbols.specs.Entries.{kind_number, blank, meant};
+ghost use Rattle.symbols.specs.Table.{has_name, of_label, of_number};
 
-// What a symbol is. Memory that holds none is blank.
+// What a symbol is. Memory that holds none is blank: a kind, and no Option, since entries are plain numbers in memory that the caller lends.
 #[derive(Clone, Copy, PartialEq, Eq, Debug)]
 pub enum Kind {
     Blank,
@@ -16,12 +18,28 @@ impl Kind {
     pub fn number(self) -> u8
         ensures { result ≡ kind_number self }
     {
-        match self {
-            Kind::Blank => 0,
-            Kind::Variable => 1,
-            Kind::Number => 2,
-            Kind::Label => 3,
-        }
+        self as u8
+    }
+
+    // Whether an entry of this kind has a name: it is that of a variable or a label.
+    pub fn has_name(self) -> bool
+        ensures { result ≡ has_name self }
+    {
+        matches!(self, Kind::Variable | Kind::Label)
+    }
+
+    // Whether an entry of this kind is that of a label.
+    pub fn is_label(self) -> bool
+        ensures { result ≡ of_label self }
+    {
+        matches!(self, Kind::Label)
+    }
+
+    // Whether an entry of this kind is that of a number.
+    pub fn is_number(self) -> bool
+        ensures { result ≡ of_number self }
+    {
+        matches!(self, Kind::Number)
     }
 }
 
@@ -56,4 +74,27 @@ pub enum Role {
     Target,
     Listed,
     Variable,
+}
+
+impl Role {
+    // Whether the name stands before a command, as its label.
+    pub fn is_definition(self) -> bool
+        ensures { result ≡ is_definition (meant self) }
+    {
+        matches!(self, Role::Definition)
+    }
+
+    // Whether the name is a label in a list after OF.
+    pub fn is_listed(self) -> bool
+        ensures { result ≡ is_listed (meant self) }
+    {
+        matches!(self, Role::Listed)
+    }
+
+    // Whether the name is used as a label.
+    pub fn is_label(self) -> bool
+        ensures { result ≡ is_label (meant self) }
+    {
+        !matches!(self, Role::Variable)
+    }
 }

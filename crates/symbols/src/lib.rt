@@ -2,12 +2,13 @@
 // after another, and answers the entry, or the refusal that stands at the use. It knows nothing of grammar or code.
 #![tactic(auto)]
 
-ghost use Rattle.std.specs.Prelude.{◌≡◌, ◌+◌, ◌<◌, true, false, ◌&&◌, Some, None};
+ghost use Rattle.std.specs.Prelude.{◌≡◌, ◌+◌, ◌<◌, true, false, ◌&&◌, Some, None, slice_set};
+ghost use Rattle.std.specs.Fn.{FnReturnsAt};
 ghost use Rattle.limits.specs.Uses.{is_label};
 ghost use Rattle.limits.specs.Rules.{cell_limit, label_limit};
 ghost use Rattle.limits.specs.Symbols.{first_cell};
 ghost use Rattle.symbols.specs.Entries.{meant};
-ghost use Rattle.symbols.specs.Table.{size, is_named, is_valued, is_short, room_refusal, Found, Keeps, Answers, NameTold, DigitsTold, NoDigitsTold, NumberTold, Fresh, EntryRead, UseRead, UnmetRead, AddsCell, AddsLabel, AddsName, PlacesLabel, cell_symbol, label_symbol};
+ghost use Rattle.symbols.specs.Table.{size, is_named, is_pending, is_valued, is_short, room_refusal, FoundBy, Found, Becomes, Keeps, Answers, NameTold, DigitsTold, NoDigitsTold, NumberTold, Fresh, EntryRead, UseRead, UnmetRead, AddsCell, AddsLabel, AddsName, PlacesLabel, cell_symbol, label_symbol};
 
 mod entries;
 pub mod kinds;
@@ -16,8 +17,7 @@ pub mod theorem;
 
 use arithmetic::Arithmetic;
 use entries::{
-    PENDING, defines, is_full, is_long, is_named, is_pending, known_refusal, names_label,
-    of_number, room_refusal, spelled,
+    PENDING, is_full, is_long, is_named, is_pending, known_refusal, room_refusal, spelled,
 };
 use fault::{Fault, Refusal};
 use kinds::{Kind, Role, Symbol};
@@ -74,23 +74,17 @@ impl<'s, 'c, 't> Table<'s, 'c, 't> {
         ensures entry { EntryRead self.now index result }
         ensures describes { UseRead self.now index result }
     {
-        if index < self.len() {
-            return Some(self.symbols[index as usize]);
-        }
-        None
+        self.symbols[..self.len() as usize]
+            .get(index as usize)
+            .copied()
     }
 
     // The place of the earliest mention of a label that stands before no command.
     pub fn first_pending(&self) -> Option<usize>
         ensures { UnmetRead self.now result }
     {
-        for i in 0..self.len() {
-            let s = self.symbols[i as usize];
-            if is_pending(s) {
-                return Some(s.place as usize);
-            }
-        }
-        None
+        let index = self.find_pending()?;
+        Some(self.symbols[index as usize].place as usize)
     }
 
     // Tells the table that a name stands at a place. It answers the index of the name's entry, or the lowest of the refusals
@@ -115,7 +109,7 @@ impl<'s, 'c, 't> Table<'s, 'c, 't> {
                 match known_refusal(role, s) {
                     Some(refusal) => Err(fault_at(refusal, place)),
                     None => {
-                        if defines(role) {
+                        if role.is_definition() {
                             self.place_label(index, address);
                         }
                         Ok(index)
@@ -125,7 +119,7 @@ impl<'s, 'c, 't> Table<'s, 'c, 't> {
             None => match room_refusal(role, self.celled, self.labels) {
                 Some(refusal) => Err(fault_at(refusal, place)),
                 None => {
-                    if self.is_short(names_label(role)) {
+                    if self.is_short(role.is_label()) {
                         return Err(fault_at(Refusal::ShortMemory, 0));
                     }
                     Ok(self.add_name(role, place, length, address))
@@ -167,16 +161,27 @@ impl<'s, 'c, 't> Table<'s, 'c, 't> {
         }
     }
 
+    // The index of the first entry that passes a test, if one does.
+    fn find<F: Fn(&Symbol) -> bool>(&self, test: F) -> Option<u16>
+        requires { F.IsAlwaysCallable test }
+        ensures { FoundBy (FnReturnsAt F.Fn test) self.now.symbols.now (size self.now) result }
+    {
+        let index = self.symbols[..self.len() as usize].iter().position(test)?;
+        Some(index as u16)
+    }
+
+    // The first entry of a label that stands before no command yet.
+    fn find_pending(&self) -> Option<u16>
+        ensures { Found is_pending self.now.symbols.now (size self.now) result }
+    {
+        self.find(|s| is_pending(*s))
+    }
+
     // The entry of the name that stands at a place.
     fn find_name(&self, place: u16, length: u16) -> Option<u16>
         ensures { Found (is_named self.now.text.now place length) self.now.symbols.now (size self.now) result }
     {
-        for i in 0..self.len() {
-            if is_named(self.text, place, length, self.symbols[i as usize]) {
-                return Some(i);
-            }
-        }
-        None
+        self.find(|s| is_named(self.text, place, length, *s))
     }
 
     // Whether an entry is that of a number whose cell holds a word.
@@ -184,22 +189,14 @@ impl<'s, 'c, 't> Table<'s, 'c, 't> {
         ensures { result ≡ is_valued self.now.cells.now word s }
     {
         let at = s.at as usize;
-        if !of_number(s.kind) || at >= self.cells.len() {
-            return false;
-        }
-        self.cells[at] == word
+        s.kind.is_number() && at < self.cells.len() && self.cells[at] == word
     }
 
     // The entry of a number, by its word.
     fn find_number(&self, word: i32) -> Option<u16>
         ensures { Found (is_valued self.now.cells.now word) self.now.symbols.now (size self.now) result }
     {
-        for i in 0..self.len() {
-            if self.is_valued(word, self.symbols[i as usize]) {
-                return Some(i);
-            }
-        }
-        None
+        self.find(|s| self.is_valued(word, *s))
     }
 
     // Whether memory lacks for one symbol more, a label or one with a cell.
@@ -219,15 +216,14 @@ impl<'s, 'c, 't> Table<'s, 'c, 't> {
         ensures index { result ≡ size self.old }
         ensures after { AddsCell self.old self.new (cell_symbol kind place length self.old.celled) word }
     {
-        let index = self.len();
         let at = self.cells_used();
-        self.symbols[index as usize] = Symbol {
+        self.cells[at as usize] = word;
+        let index = self.write(Symbol {
             kind,
             place,
             length,
             at,
-        };
-        self.cells[at as usize] = word;
+        });
         self.celled += 1;
         index
     }
@@ -239,14 +235,24 @@ impl<'s, 'c, 't> Table<'s, 'c, 't> {
         ensures index { result ≡ size self.old }
         ensures after { AddsLabel self.old self.new (label_symbol place length at) }
     {
-        let index = self.len();
-        self.symbols[index as usize] = Symbol {
+        let index = self.write(Symbol {
             kind: Kind::Label,
             place,
             length,
             at,
-        };
+        });
         self.labels += 1;
+        index
+    }
+
+    // Writes an entry after those in use, among which it is not counted yet.
+    fn write(&mut self, symbol: Symbol) -> u16
+        requires room { is_short true self.old ≡ false }
+        ensures index { result ≡ size self.old }
+        ensures after { Becomes self.old self.new (slice_set self.old.symbols.now (size self.old) symbol) self.old.cells.now self.old.celled self.old.labels }
+    {
+        let index = self.len();
+        self.symbols[index as usize] = symbol;
         index
     }
 
@@ -269,12 +275,6 @@ impl<'s, 'c, 't> Table<'s, 'c, 't> {
         requires { index < size self.old }
         ensures { PlacesLabel self.old self.new index address }
     {
-        let s = self.symbols[index as usize];
-        self.symbols[index as usize] = Symbol {
-            kind: s.kind,
-            place: s.place,
-            length: s.length,
-            at: address,
-        };
+        self.symbols[index as usize].at = address;
     }
 }

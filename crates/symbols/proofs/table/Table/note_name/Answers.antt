@@ -20,8 +20,8 @@ returns-in-Some-known_refusal c =
       );
     }
 
-pub returns-then-defines : goal.returns-then-defines
-returns-then-defines c =
+pub returns-then-is_definition : goal.returns-then-is_definition
+returns-then-is_definition c =
     let f = c.in-Some.ensures in
     let a = c.args.self.now in
     let b = c.place_label.new.self in
@@ -31,11 +31,11 @@ returns-then-defines c =
       answers = omega (arith, f.0, x.celled_are, x.labels_are);
       told = λ w seen s h z snd.
           placed_taken w a seen h (meant c.args.role) s c.args.place c.args.length c.args.address (name_role c.args.role) z snd (sym c.if-is_long.ensures) c.in-Some.index f.0 f.1
-          (sym c.in-None-known_refusal.ensures) b (sym c.if-defines.ensures) x;
+          (sym c.in-None-known_refusal.ensures) b (sym c.if-is_definition.ensures) x;
     }
 
-pub returns-else-defines : goal.returns-else-defines
-returns-else-defines c =
+pub returns-else-is_definition : goal.returns-else-is_definition
+returns-else-is_definition c =
     let f = c.in-Some.ensures in
     let a = c.args.self.now in
     record {
@@ -43,7 +43,7 @@ returns-else-defines c =
       answers = f.0;
       told = λ w seen s h z snd.
           old_taken w a seen h (meant c.args.role) s c.args.place c.args.length c.args.address (name_role c.args.role) z snd (sym c.if-is_long.ensures) c.in-Some.index f.0 f.1
-          (sym c.in-None-known_refusal.ensures) (sym c.if-defines.ensures);
+          (sym c.in-None-known_refusal.ensures) (sym c.if-is_definition.ensures);
     }
 
 pub returns-in-Some-room_refusal : goal.returns-in-Some-room_refusal
