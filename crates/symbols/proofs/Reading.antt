@@ -193,8 +193,8 @@ module _ (w : Words) (t : Table) (seen : List Mention) (h : Holds w t seen) wher
       (let m : i < size t = omega (arith, firsts_size w t seen h) in sym (pending_is w t seen h i m) ∙ e i m)))
 
   pub some_pending : (i : ℕ) → i < size t → is_pending (get_or t.symbols.now i blank) ≡ true → ((k : ℕ) → k < i → is_pending (get_or t.symbols.now k blank) ≡ false) →
-      some (record { number = 12; place = (get_or t.symbols.now i blank).place }) ≡ earliest_unmet (uses_of seen) seen
+      some (record { number = 12; place = (get_or t.symbols.now i blank).spelling.place }) ≡ earliest_unmet (uses_of seen) seen
   some_pending i l b e =
-      ap (λ (s : Symbol). some (record { number = 12; place = s.place })) (entry_at w t seen h i l)
+      ap (λ (s : Symbol). some (record { number = 12; place = s.spelling.place })) (entry_at w t seen h i l)
       ∙ sym (earliest_is (uses_of seen) w seen ∙ scan_some (uses_of seen) (firsts w seen) i (omega (arith, firsts_size w t seen h)) (sym (pending_is w t seen h i l) ∙ b)
       (λ k m. (let n : k < size t = omega arith in sym (pending_is w t seen h k n) ∙ e k m)))

@@ -1,10 +1,11 @@
 // What an entry says of a name, and which refusal stands at a name, by its entry.
 ghost use Rattle.std.specs.Prelude.{◌≡◌, ◌+◌, ◌<◌, true, false, ◌&&◌, nat_le, nat_lt};
+ghost use Rattle.std.specs.Result.{result_err};
 ghost use Rattle.limits.specs.Rules.{name_limit, cell_limit};
-ghost use Rattle.symbols.specs.Entries.{meant, part};
+ghost use Rattle.symbols.specs.Entries.{meant};
 ghost use Rattle.symbols.specs.Table.{is_named, is_pending, known_refusal, room_refusal};
 
-use crate::kinds::{Kind, Role, Symbol};
+use crate::kinds::{Role, Spelling, Symbol};
 use fault::Refusal;
 
 // The most bytes of a name, cells for variables and numbers, and labels.
@@ -26,58 +27,47 @@ pub fn is_full(celled: u16) -> bool
 }
 
 // Whether a name is too long.
-pub fn is_long(length: u16) -> bool
-    ensures { result ≡ nat_lt name_limit length }
+pub fn is_long(spelling: Spelling) -> bool
+    ensures { result ≡ nat_lt name_limit spelling.length }
 {
-    length > NAME
-}
-
-// The bytes of a spelling, as far as the text has them.
-pub fn spelled<'t>(text: &'t [u8], place: u16, length: u16) -> &'t [u8]
-    ensures { result.now ≡ part text.now place length }
-{
-    let start = (place as usize).min(text.len());
-    let rest = &text[start..];
-    &rest[..(length as usize).min(rest.len())]
+    spelling.length > NAME
 }
 
 // Whether an entry has the name that stands at a place. Kind and length are compared before the bytes.
-pub fn is_named(text: &[u8], place: u16, length: u16, s: Symbol) -> bool
-    ensures { result ≡ is_named text.now place length s }
+pub fn is_named(text: &[u8], spelling: Spelling, s: Symbol) -> bool
+    ensures { result ≡ is_named text.now spelling s }
 {
     s.kind.has_name()
-        && s.length == length
-        && spelled(text, s.place, s.length) == spelled(text, place, length)
+        && s.spelling.length == spelling.length
+        && s.spelling.bytes(text) == spelling.bytes(text)
 }
 
-// The refusal of a name that has an entry.
-pub fn known_refusal(role: Role, s: Symbol) -> Option<Refusal>
-    ensures { result ≡ known_refusal (meant role) s }
+// Refuses a name that has an entry, if it may not be used so.
+pub fn check_known(role: Role, s: Symbol) -> Result<(), Refusal>
+    ensures { result_err result ≡ known_refusal (meant role) s }
 {
     let label = s.kind.is_label();
     if role.is_definition() && label && s.at != PENDING {
-        return Some(Refusal::DuplicateLabel);
+        return Err(Refusal::DuplicateLabel);
     }
     if role.is_label() != label {
-        return Some(Refusal::MixedKind);
+        return Err(Refusal::MixedKind);
     }
-    None
+    Ok(())
 }
 
-// The refusal of a name that has none.
-pub fn room_refusal(role: Role, celled: u16, labels: u16) -> Option<Refusal>
-    ensures { result ≡ room_refusal (meant role) celled labels }
+// Refuses a name that has none, if there are too many of its kind.
+pub fn check_room(role: Role, celled: u16, labels: u16) -> Result<(), Refusal>
+    ensures { result_err result ≡ room_refusal (meant role) celled labels }
 {
     if role.is_label() {
         if labels >= LABELS {
-            return Some(Refusal::TooManyLabels);
+            return Err(Refusal::TooManyLabels);
         }
-        return None;
+    } else if is_full(celled) {
+        return Err(Refusal::TooManyCells);
     }
-    if is_full(celled) {
-        return Some(Refusal::TooManyCells);
-    }
-    None
+    Ok(())
 }
 
 // Whether an entry is that of a label that stands before no command yet.

@@ -1,7 +1,7 @@
 // What the table holds, and how a name is used.
 ghost use Rattle.std.specs.Prelude.{◌≡◌};
 ghost use Rattle.limits.specs.Uses.{is_definition, is_listed, is_label};
-ghost use Rattle.symbols.specs.Entries.{kind_number, blank, meant};
+ghost use Rattle.symbols.specs.Entries.{kind_number, blank, meant, part};
 ghost use Rattle.symbols.specs.Table.{has_name, of_label, of_number};
 
 // What a symbol is. Memory that holds none is blank: a kind, and no Option, since entries are plain numbers in memory that the caller lends.
@@ -43,13 +43,30 @@ impl Kind {
     }
 }
 
-// An entry: a symbol's kind, the place and the length of its first spelling in the text, and its cell or, of a label, its address.
+// Where a name or a number is spelled in the text: the place of its first byte, and how many it has.
+#[derive(Clone, Copy, PartialEq, Eq, Debug)]
+pub struct Spelling {
+    pub place: u16,
+    pub length: u16,
+}
+
+impl Spelling {
+    // Its bytes, as far as the text has them.
+    pub fn bytes<'t>(self, text: &'t [u8]) -> &'t [u8]
+        ensures { result.now ≡ part text.now self }
+    {
+        let start = (self.place as usize).min(text.len());
+        let rest = &text[start..];
+        &rest[..(self.length as usize).min(rest.len())]
+    }
+}
+
+// An entry: a symbol's kind, its first spelling in the text, and its cell or, of a label, its address.
 // A label that stands before no command yet is pending: its address is 65,535.
 #[derive(Clone, Copy, PartialEq, Eq, Debug)]
 pub struct Symbol {
     pub kind: Kind,
-    pub place: u16,
-    pub length: u16,
+    pub spelling: Spelling,
     pub at: u16,
 }
 
@@ -60,8 +77,10 @@ impl Symbol {
     {
         Symbol {
             kind: Kind::Blank,
-            place: 0,
-            length: 0,
+            spelling: Spelling {
+                place: 0,
+                length: 0,
+            },
             at: 0,
         }
     }
