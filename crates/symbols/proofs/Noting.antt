@@ -22,7 +22,7 @@ use Rattle.symbols.specs.declared.kinds.Role.{Role as Told}
 use Rattle.symbols.specs.declared.kinds.Role.TheVariants as told
 use Rattle.symbols.specs.Entries.{Variable, Number, Spelling, Symbol, blank, kind_entry, meant}
 use Rattle.symbols.specs.Mentions.{Mention, uses_of, pending, address_in, Sound, index, use_refusal}
-use Rattle.symbols.specs.Table.{size, Holds, Keeps, mention, Taken, Decides, of_label, is_named, is_valued, known_refusal, room_refusal, fault_at, AddsCell, AddsLabel, AddsName, PlacesLabel, cell_symbol, label_symbol}
+use Rattle.symbols.specs.Table.{size, Holds, Keeps, mention, Taken, Decides, of_label, is_named, is_valued, known_refusal, room_refusal, fault_at, Gives, first_address, AddsCell, AddsLabel, AddsName, PlacesLabel, cell_symbol, label_symbol}
 use Rattle.symbols.proofs.Firsts.{First, key_of}
 use Rattle.symbols.proofs.Exact as exact
 use Rattle.symbols.proofs.Exact.{definition_label, label_not_literal, kinds_agree, differs_from, pending_none, placed_below, key_name, name_key}
@@ -50,10 +50,23 @@ found_none p None e = refl
 found_none p (Some r) e = let z : ◌≡◌ {A = ℕ} 0 1 = cc in absurd (omega arith)
 
 pub name_role : (r : Told) → is_literal (meant r) ≡ false
-name_role told.Definition = refl
+name_role (told.Definition a) = refl
 name_role told.Target = refl
 name_role told.Listed = refl
 name_role told.Variable = refl
+
+-- the first address of a label is that of a mention in its role, or none
+pub first_is : (r : Told) (address : ℕ) → Gives r address → first_address r ≡ cond (is_definition (meant r)) address pending
+first_is (told.Definition a) address g = g
+first_is told.Target address g = refl
+first_is told.Listed address g = refl
+first_is told.Variable address g = refl
+
+pub no_definition : (r : Told) → ((a : ℕ) → r ≡ told.Definition a → ⊥) → is_definition (meant r) ≡ false
+no_definition (told.Definition a) n = absurd (n a refl)
+no_definition told.Target n = refl
+no_definition told.Listed n = refl
+no_definition told.Variable n = refl
 
 none_some : (x : Refusal) → ◌≡◌ {A = Option Refusal} None (Some x) → ⊥
 none_some x e = let z : ◌≡◌ {A = ℕ} 0 1 = cc in omega arith
@@ -241,7 +254,7 @@ module _ (w : Words) (a : Table) (seen : List Mention) (h : Holds w a seen) (r :
             by (holds d) = ap (λ b. cond b address pending) d ∙ sym (exact.defined_here seen (mention r s at.place address) d)
             by (fails d) = ap (λ b. cond b address pending) d ∙ sym (exact.defined_not seen (mention r s at.place address) s d ∙ use_s)
 
-        pub new_taken : (b : Table) → AddsName a b r at address → Taken w b seen (mention r s at.place address) (size a)
+        pub new_taken : (b : Table) → AddsName a b r at (cond (is_definition r) address pending) → Taken w b seen (mention r s at.place address) (size a)
         new_taken b x = record { no_refusal = none_stands; holds = by (way (is_label r)); is_index = new_index }
           where
             by : Way (is_label r) → Holds w b (mention r s at.place address ∷ seen)
@@ -342,18 +355,18 @@ module _ (a b : Table) where
   keeps_name r at address x = by (way (is_label r))
     where
       by : Way (is_label r) → Keeps a b
-      by (holds l) = keeps_label _ (subst (λ (z : Bool). cond z (AddsLabel a b (label_symbol at (cond (is_definition r) address pending))) (AddsCell a b (cell_symbol Variable at a.celled) (pos 0))) l x)
-      by (fails l) = keeps_cell _ (pos 0) (subst (λ (z : Bool). cond z (AddsLabel a b (label_symbol at (cond (is_definition r) address pending))) (AddsCell a b (cell_symbol Variable at a.celled) (pos 0))) l x)
+      by (holds l) = keeps_label _ (subst (λ (z : Bool). cond z (AddsLabel a b (label_symbol at address)) (AddsCell a b (cell_symbol Variable at a.celled) (pos 0))) l x)
+      by (fails l) = keeps_cell _ (pos 0) (subst (λ (z : Bool). cond z (AddsLabel a b (label_symbol at address)) (AddsCell a b (cell_symbol Variable at a.celled) (pos 0))) l x)
 
   pub name_size : (r : Role) (at : Spelling) (address : ℕ) → AddsName a b r at address → size b ≡ size a + 1
   name_size r at address x = by (way (is_label r))
     where
       by : Way (is_label r) → size b ≡ size a + 1
       by (holds l) =
-          let y = subst (λ (z : Bool). cond z (AddsLabel a b (label_symbol at (cond (is_definition r) address pending))) (AddsCell a b (cell_symbol Variable at a.celled) (pos 0))) l x in
+          let y = subst (λ (z : Bool). cond z (AddsLabel a b (label_symbol at address)) (AddsCell a b (cell_symbol Variable at a.celled) (pos 0))) l x in
           omega (arith, y.celled_are, y.labels_are)
       by (fails l) =
-          let y = subst (λ (z : Bool). cond z (AddsLabel a b (label_symbol at (cond (is_definition r) address pending))) (AddsCell a b (cell_symbol Variable at a.celled) (pos 0))) l x in
+          let y = subst (λ (z : Bool). cond z (AddsLabel a b (label_symbol at address)) (AddsCell a b (cell_symbol Variable at a.celled) (pos 0))) l x in
           omega (arith, y.celled_are, y.labels_are)
 
   pub keeps_placed : (i address : ℕ) → i < size a → PlacesLabel a b i address → Keeps a b

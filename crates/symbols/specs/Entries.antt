@@ -31,7 +31,7 @@ entry s = record { kind = kind_entry s.kind; spelling = record { place = s.place
 
 -- the role of a name, among those of all uses
 abbrev pub meant : Role → limits.Role
-meant role.Definition = limits.definition
+meant (role.Definition address) = limits.definition
 meant role.Target = limits.target
 meant role.Listed = limits.listed
 meant role.Variable = limits.variable_use

@@ -22,21 +22,21 @@ impl Kind {
     }
 
     // Whether an entry of this kind has a name: it is that of a variable or a label.
-    pub fn has_name(self) -> bool
+    pub(crate) fn has_name(self) -> bool
         ensures { result ≡ has_name self }
     {
         matches!(self, Kind::Variable | Kind::Label)
     }
 
     // Whether an entry of this kind is that of a label.
-    pub fn is_label(self) -> bool
+    pub(crate) fn is_label(self) -> bool
         ensures { result ≡ of_label self }
     {
         matches!(self, Kind::Label)
     }
 
     // Whether an entry of this kind is that of a number.
-    pub fn is_number(self) -> bool
+    pub(crate) fn is_number(self) -> bool
         ensures { result ≡ of_number self }
     {
         matches!(self, Kind::Number)
@@ -52,7 +52,7 @@ pub struct Spelling {
 
 impl Spelling {
     // Its bytes, as far as the text has them.
-    pub fn bytes<'t>(self, text: &'t [u8]) -> &'t [u8]
+    pub(crate) fn bytes<'t>(self, text: &'t [u8]) -> &'t [u8]
         ensures { result.now ≡ part text.now self }
     {
         let start = (self.place as usize).min(text.len());
@@ -87,9 +87,10 @@ impl Symbol {
 }
 
 // How a name is used: as a label before a command, after GO TO or in a list after OF, or as a variable.
+// A label before a command is given the command's address.
 #[derive(Clone, Copy, PartialEq, Eq, Debug)]
 pub enum Role {
-    Definition,
+    Definition(u16),
     Target,
     Listed,
     Variable,
@@ -100,7 +101,7 @@ impl Role {
     pub fn is_definition(self) -> bool
         ensures { result ≡ is_definition (meant self) }
     {
-        matches!(self, Role::Definition)
+        matches!(self, Role::Definition(_))
     }
 
     // Whether the name is a label in a list after OF.

@@ -10,7 +10,7 @@ ghost use Rattle.limits.specs.Uses.{is_label};
 ghost use Rattle.limits.specs.Rules.{cell_limit, label_limit};
 ghost use Rattle.limits.specs.Symbols.{first_cell};
 ghost use Rattle.symbols.specs.Entries.{meant};
-ghost use Rattle.symbols.specs.Table.{size, is_named, is_pending, is_valued, is_short, room_refusal, fault_at, FoundBy, Found, Becomes, Keeps, Answers, NameTold, DigitsTold, NoDigitsTold, NumberTold, Fresh, EntryRead, UseRead, UnmetRead, AddsCell, AddsLabel, AddsName, PlacesLabel, cell_symbol, label_symbol};
+ghost use Rattle.symbols.specs.Table.{size, is_named, is_pending, is_valued, is_short, room_refusal, fault_at, FoundBy, Found, Becomes, Keeps, Answers, NameTold, DigitsTold, NoDigitsTold, NumberTold, Fresh, EntryRead, UseRead, UnmetRead, AddsCell, AddsLabel, AddsName, first_address, PlacesLabel, cell_symbol, label_symbol};
 
 mod entries;
 pub mod kinds;
@@ -95,11 +95,11 @@ impl<'s, 'c, 't> Table<'s, 'c, 't> {
     }
 
     // Tells the table that a name stands at a place. It answers the index of the name's entry, or the lowest of the refusals
-    // 4 to 8 that stands at the name. The address is that of the label, if the name stands before a command.
-    pub fn note_name(&mut self, role: Role, spelling: Spelling, address: u16) -> Result<u16, Fault>
+    // 4 to 8 that stands at the name.
+    pub fn note_name(&mut self, role: Role, spelling: Spelling) -> Result<u16, Fault>
         ensures kept { Keeps self.old self.new }
         ensures answers { Answers self.old self.new result }
-        ensures told { NameTold self.old self.new (meant role) spelling address result }
+        ensures told { NameTold self.old self.new role spelling result }
     {
         let place = spelling.place;
         if is_long(spelling) {
@@ -109,7 +109,7 @@ impl<'s, 'c, 't> Table<'s, 'c, 't> {
             Some(index) => {
                 let symbol = self.symbols[index as usize];
                 found_at(check_known(role, symbol), place)?;
-                if role.is_definition() {
+                if let Role::Definition(address) = role {
                     self.place_label(index, address);
                 }
                 Ok(index)
@@ -119,7 +119,7 @@ impl<'s, 'c, 't> Table<'s, 'c, 't> {
                 if self.is_short(role.is_label()) {
                     return Err(fault_at(Refusal::ShortMemory, 0));
                 }
-                Ok(self.add_name(role, spelling, address))
+                Ok(self.add_name(role, spelling))
             }
         }
     }
@@ -245,15 +245,15 @@ impl<'s, 'c, 't> Table<'s, 'c, 't> {
     }
 
     // Enters a name that has no entry.
-    fn add_name(&mut self, role: Role, spelling: Spelling, address: u16) -> u16
+    fn add_name(&mut self, role: Role, spelling: Spelling) -> u16
         requires few { room_refusal (meant role) self.old.celled self.old.labels ≡ None }
         requires room { is_short (is_label (meant role)) self.old ≡ false }
         ensures index { result ≡ size self.old }
-        ensures after { AddsName self.old self.new (meant role) spelling address }
+        ensures after { AddsName self.old self.new (meant role) spelling (first_address role) }
     {
         match role {
             Role::Variable => self.add_cell(Kind::Variable, spelling, 0),
-            Role::Definition => self.add_label(spelling, address),
+            Role::Definition(address) => self.add_label(spelling, address),
             Role::Target | Role::Listed => self.add_label(spelling, PENDING),
         }
     }
