@@ -8,7 +8,7 @@ use Rattle.limits.specs.Uses.{Role, definition, target, listed, variable_use, nu
 use Rattle.limits.specs.Symbols.{first_cell, kind_of}
 use Rattle.limits.proofs.Keys.{Way, holds, fails, way, clash, same_word_sound, same_word_refl, same_bytes_sound, same_bytes_complete}
 use Rattle.symbols.specs.declared.table.Table.{Table}
-use Rattle.symbols.specs.Entries.{blank, entry, kind_entry, part}
+use Rattle.symbols.specs.Entries.{Spelling, blank, entry, kind_entry, part}
 use Rattle.symbols.specs.Mentions.{Mention, uses_of, address_in, Sound, AllSound, contents}
 use Rattle.symbols.specs.Table.{size, Holds, has_name, of_label, of_number, is_named, is_valued}
 use Rattle.symbols.proofs.Firsts.{First, no_first, entered, key_of, firsts, entries_are, firsts_count, contents_count, FirstAt, first_at, has_first}
@@ -116,35 +116,35 @@ module _ (w : Words) (t : Table) (seen : List Mention) (h : Holds w t seen) wher
   the_first i l = first_at w seen i (omega (arith, firsts_size))
 
   -- a first mention is spelled in the text
-  first_bytes : (i : ℕ) → i < size t → part t.text.now (the i).mention.place (length (the i).mention.used.spelling) ≡ (the i).mention.used.spelling
+  first_bytes : (i : ℕ) → i < size t → take (length (the i).mention.used.spelling) (drop (the i).mention.place t.text.now) ≡ (the i).mention.used.spelling
   first_bytes i l = (sound_in t.text.now seen h.sound (the i).mention (the_first i l).is_in).bytes
 
   -- the cell of a variable or a number
   pub cell_at : (n : ℕ) → n < t.celled → get_or t.cells.now (first_cell + n) (pos 0) ≡ get_or (contents w us) n (pos 0)
   cell_at n l = sym (get_or-drop first_cell t.cells.now n (pos 0)) ∙ sym (get_or-take t.celled (drop first_cell t.cells.now) n (pos 0) l) ∙ ap (λ x. get_or x n (pos 0)) h.cells_are
 
-  -- the name s of n bytes, at the place p
-  module _ (p n : ℕ) (s : List ℕ) (sized : length s ≡ n) (bytes : part t.text.now p (length s) ≡ s) where
-    spelled : part t.text.now p n ≡ s
-    spelled = ap (part t.text.now p) (sym sized) ∙ bytes
+  -- the name s, at a place
+  module _ (at : Spelling) (s : List ℕ) (sized : length s ≡ at.length) (bytes : take (length s) (drop at.place t.text.now) ≡ s) where
+    spelled : part t.text.now at ≡ s
+    spelled = ap (λ n. take n (drop at.place t.text.now)) (sym sized) ∙ bytes
 
-    pub name_found : (i : ℕ) → i < size t → is_named t.text.now p n (get_or t.symbols.now i blank) ≡ true → Named (the i).mention.used.role (the i).mention.used.spelling s
+    pub name_found : (i : ℕ) → i < size t → is_named t.text.now at (get_or t.symbols.now i blank) ≡ true → Named (the i).mention.used.role (the i).mention.used.spelling s
     name_found i l e =
         let f = the i in
-        let x : is_named t.text.now p n (entry (entered (address_in seen) f)) ≡ true = ap (is_named t.text.now p n) (sym (entry_at i l)) ∙ e in
+        let x : is_named t.text.now at (entry (entered (address_in seen) f)) ≡ true = ap (is_named t.text.now at) (sym (entry_at i l)) ∙ e in
         let a = and_parts (has_name (kind_entry (kind_of f.mention.used.role))) _ x in
-        let b = and_parts (eqb (length f.mention.used.spelling) n) _ a.1 in
+        let b = and_parts (eqb (length f.mention.used.spelling) at.length) _ a.1 in
         record { is_name = named_role f.mention.used.role a.0; spells = sym (first_bytes i l) ∙ same_bytes_sound _ _ b.1 ∙ spelled }
 
-    named : (i : ℕ) → i < size t → Named (the i).mention.used.role (the i).mention.used.spelling s → is_named t.text.now p n (get_or t.symbols.now i blank) ≡ true
+    named : (i : ℕ) → i < size t → Named (the i).mention.used.role (the i).mention.used.spelling s → is_named t.text.now at (get_or t.symbols.now i blank) ≡ true
     named i l a =
         let f = the i in
-        ap (is_named t.text.now p n) (entry_at i l)
+        ap (is_named t.text.now at) (entry_at i l)
         ∙ and_from (has_name (kind_entry (kind_of f.mention.used.role))) _ (role_named f.mention.used.role a.is_name)
-        (and_from (eqb (length f.mention.used.spelling) n) _ (eq-eqb _ _ (ap length a.spells ∙ sized))
+        (and_from (eqb (length f.mention.used.spelling) at.length) _ (eq-eqb _ _ (ap length a.spells ∙ sized))
         (same_bytes_complete _ _ (first_bytes i l ∙ a.spells ∙ sym spelled)))
 
-    module _ (none : (i : ℕ) → i < size t → is_named t.text.now p n (get_or t.symbols.now i blank) ≡ false) where
+    module _ (none : (i : ℕ) → i < size t → is_named t.text.now at (get_or t.symbols.now i blank) ≡ false) where
       absent : (k : Key) → ((i : ℕ) → key_of w (the i) ≡ k → Named (the i).mention.used.role (the i).mention.used.spelling s) → known w k us ≡ false
       absent k names = by (way (known w k us))
         where

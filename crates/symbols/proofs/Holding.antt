@@ -11,7 +11,7 @@ use Rattle.limits.specs.Uses.{Role, definition, target, listed, variable_use, nu
 use Rattle.limits.specs.Symbols.{first_cell, kind_of}
 use Rattle.limits.proofs.Keys.{Way, holds, fails, way, clash, same_bytes_sound, same_bytes_complete}
 use Rattle.symbols.specs.declared.table.Table.{Table}
-use Rattle.symbols.specs.Entries.{Kind, Label, Symbol, blank, entry, kind_entry}
+use Rattle.symbols.specs.Entries.{Kind, Label, Spelling, Symbol, blank, entry, kind_entry}
 use Rattle.symbols.specs.Mentions.{Mention, uses_of, address_in, Sound, AllSound, entries, count, index, initial, contents, use_refusal}
 use Rattle.symbols.specs.Table.{size, Holds, AddsCell, AddsLabel, PlacesLabel, cell_symbol, label_symbol, moved_to}
 use Rattle.symbols.proofs.Firsts.{First, no_first, entered, key_of, firsts, entries_are, firsts_new, firsts_old}
@@ -83,6 +83,10 @@ module _ (w : Words) (a : Table) (seen : List Mention) (h : Holds w a seen) (m :
   abbrev s : List ℕ
   s = m.used.spelling
 
+  -- where it is spelled
+  abbrev pub spot : Spelling
+  spot = record { place = m.place; length = length s }
+
   abbrev fs : List First
   fs = firsts w seen
 
@@ -152,7 +156,7 @@ module _ (w : Words) (a : Table) (seen : List Mention) (h : Holds w a seen) (m :
         (λ j. cond (d j && bytes_eq (sp j) s) m.address (now_at g.mention.used.spelling)) ∙ ap (λ x. cond x m.address (now_at g.mention.used.spelling)) (same_bytes_complete s s refl) in
         let gets : moved_to m.address (get_or a.symbols.now i blank) ≡ entry (entered then_at g) =
         ap (moved_to m.address) (entry_at w a seen h i l)
-        ∙ ap (λ n. record { kind = kind_entry (kind_of g.mention.used.role); place = g.mention.place; length = length g.mention.used.spelling; at = n })
+        ∙ ap (λ n. record { kind = kind_entry (kind_of g.mention.used.role); spelling = record { place = g.mention.place; length = length g.mention.used.spelling }; at = n })
         (sym ((λ j. cond (lab j) (then_at g.mention.used.spelling) (first_cell + g.before)) ∙ at_new)) in
         record {
           symbols_room = subst (λ (n : ℕ). 702 ≤ n) (sym (ap length p.symbols_are ∙ length-set a.symbols.now i _)) h.symbols_room;
@@ -181,10 +185,10 @@ module _ (w : Words) (a : Table) (seen : List Mention) (h : Holds w a seen) (m :
         ∙ map-append entry (map (entered then_at) fs) (entered then_at f ∷ []))
 
     pub holds_cell : (b : Table) (c : Kind) (v : ℤ) → is_label r ≡ false → c ≡ kind_entry (kind_of r) → v ≡ initial w m.used →
-        AddsCell a b (cell_symbol c m.place (length s) a.celled) v → a.celled < 446 → Holds w b (m ∷ seen)
+        AddsCell a b (cell_symbol c spot a.celled) v → a.celled < 446 → Holds w b (m ∷ seen)
     holds_cell b c v n kd val p low =
-        let gets : cell_symbol c m.place (length s) a.celled ≡ entry (entered then_at f) =
-        (λ j. record { kind = kd j; place = m.place; length = length s; at = first_cell + h.cell_count j }) ∙ sym (λ j. record { kind = kind_entry (kind_of r); place = m.place; length = length s; at = cond (n j) (then_at s) (first_cell + cells w us) }) in
+        let gets : cell_symbol c spot a.celled ≡ entry (entered then_at f) =
+        (λ j. record { kind = kd j; spelling = spot; at = first_cell + h.cell_count j }) ∙ sym (λ j. record { kind = kind_entry (kind_of r); spelling = spot; at = cond (n j) (then_at s) (first_cell + cells w us) }) in
         let one : a.celled + 1 + a.labels ≡ size a + 1 = omega arith in
         let room : size a < length a.symbols.now = omega arith in
         let croom : a.celled < length (drop first_cell a.cells.now) = simp length-drop (omega arith) in
@@ -197,7 +201,7 @@ module _ (w : Words) (a : Table) (seen : List Mention) (h : Holds w a seen) (m :
           sound = subst (λ t. AllSound t.now (m ∷ seen)) (sym p.text) (snd, h.sound);
           cell_count = p.celled_are ∙ ap (λ x. x + 1) h.cell_count ∙ add-one (cells w us) ∙ sym (ap (λ x. count_if x (cells w us)) more);
           label_count = p.labels_are ∙ h.label_count ∙ sym (same_size _ (labels w us) none_more);
-          symbols_are = (λ j. take (p.celled_are j + p.labels_are j) (p.symbols_are j)) ∙ ap (λ x. take x (set a.symbols.now (size a) (cell_symbol c m.place (length s) a.celled))) one
+          symbols_are = (λ j. take (p.celled_are j + p.labels_are j) (p.symbols_are j)) ∙ ap (λ x. take x (set a.symbols.now (size a) (cell_symbol c spot a.celled))) one
               ∙ grown (size a) _ room refl (ap (λ x. map (entered x) fs) (quiet (cell_defines_none r n))) gets;
           cells_are = (λ j. take (p.celled_are j) (drop first_cell (p.cells_are j))) ∙ ap (take (a.celled + 1)) (drop-set-add first_cell a.cells.now a.celled v)
               ∙ take_more_set (drop first_cell a.cells.now) a.celled v croom ∙ (λ j. h.cells_are j ++ (val j ∷ []))
@@ -205,13 +209,13 @@ module _ (w : Words) (a : Table) (seen : List Mention) (h : Holds w a seen) (m :
         }
 
     pub holds_label : (b : Table) (at : ℕ) → is_label r ≡ true → at ≡ then_at s → known w (label_key s) us ≡ false →
-        AddsLabel a b (label_symbol m.place (length s) at) → a.labels < 256 → Holds w b (m ∷ seen)
+        AddsLabel a b (label_symbol spot at) → a.labels < 256 → Holds w b (m ∷ seen)
     holds_label b at n is_at gone p low =
         let len = firsts_size w a seen h in
         let same : map (entered then_at) fs ≡ map (entered now_at) fs = map_same (entered then_at) (entered now_at) fs no_first (λ j jl.
         unchanged (get_or fs j no_first) (λ e. clash (sym (ap (λ x. known w x us) e) ∙ (the_first w a seen h j (omega (arith, len))).is_known) gone)) in
-        let gets : label_symbol m.place (length s) at ≡ entry (entered then_at f) =
-        (λ j. record { kind = sym (label_kind r n) j; place = m.place; length = length s; at = is_at j }) ∙ sym (λ j. record { kind = kind_entry (kind_of r); place = m.place; length = length s; at = cond (n j) (then_at s) (first_cell + cells w us) }) in
+        let gets : label_symbol spot at ≡ entry (entered then_at f) =
+        (λ j. record { kind = sym (label_kind r n) j; spelling = spot; at = is_at j }) ∙ sym (λ j. record { kind = kind_entry (kind_of r); spelling = spot; at = cond (n j) (then_at s) (first_cell + cells w us) }) in
         let one : a.celled + (a.labels + 1) ≡ size a + 1 = omega arith in
         let room : size a < length a.symbols.now = omega arith in
         let more : (is_label r && not (known w k us)) ≡ true = (λ j. n j && not (new j)) in
@@ -223,7 +227,7 @@ module _ (w : Words) (a : Table) (seen : List Mention) (h : Holds w a seen) (m :
           sound = subst (λ t. AllSound t.now (m ∷ seen)) (sym p.text) (snd, h.sound);
           cell_count = p.celled_are ∙ h.cell_count ∙ sym (same_size _ (cells w us) none_more);
           label_count = p.labels_are ∙ ap (λ x. x + 1) h.label_count ∙ add-one (labels w us) ∙ sym (ap (λ x. count_if x (labels w us)) more);
-          symbols_are = (λ j. take (p.celled_are j + p.labels_are j) (p.symbols_are j)) ∙ ap (λ x. take x (set a.symbols.now (size a) (label_symbol m.place (length s) at))) one
+          symbols_are = (λ j. take (p.celled_are j + p.labels_are j) (p.symbols_are j)) ∙ ap (λ x. take x (set a.symbols.now (size a) (label_symbol spot at))) one
               ∙ grown (size a) _ room refl same gets;
           cells_are = (λ j. take (p.celled_are j) (drop first_cell (p.cells_are j))) ∙ h.cells_are
               ∙ sym (ap (λ x. cond x (contents w us ++ (initial w m.used ∷ [])) (contents w us)) none_more);

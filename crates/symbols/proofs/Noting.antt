@@ -1,5 +1,5 @@
 -- Names and numbers told: the answer is the refusal that stands, or the entry.
-use Rattle.std.proofs.Common.{◌≡◌, ℕ, ◌+◌, ◌<◌, ◌≤◌, Bool, true, false, cond, not, ◌&&◌, eqb, ltb, leb, List, ◌∷◌, length, get_or, take, drop, ℤ, pos, Some, None, Option, sym, refl, ap, ◌∙◌, subst, le_refl, arith, length-set, drop-set-lt}
+use Rattle.std.proofs.Common.{◌≡◌, ℕ, ◌+◌, ◌<◌, ◌≤◌, Bool, true, false, cond, not, ◌&&◌, eqb, ltb, leb, List, ◌∷◌, length, get_or, take, drop, ℤ, pos, Some, None, Option, Err, Result, sym, refl, ap, ◌∙◌, subst, le_refl, arith, length-set, drop-set-lt}
 use mathlib.Core.Option as maybe
 use lib.Seq.{take-set-le}
 use Rattle.std.proofs.lemmas.Bool.{and_parts, leb-true, leb-false, ltb-true, ltb-false}
@@ -7,6 +7,8 @@ use Rattle.std.proofs.lemmas.Bool.Decides.{nat_tests}
 use Rattle.token.specs.Lexis.{digit}
 use Rattle.token.specs.Numbers.{word, every, word_if_digits}
 use Rattle.arithmetic.specs.Words.{Words}
+use Rattle.std.specs.Option.{option_map}
+use Rattle.fault.specs.declared.Fault.{Fault}
 use Rattle.fault.specs.declared.Refusal.{Refusal}
 use Rattle.fault.specs.declared.Refusal.TheVariants.{DuplicateLabel, MixedKind, TooManyCells, TooManyLabels}
 use Rattle.fault.specs.Refusals.{numbered}
@@ -18,9 +20,9 @@ use Rattle.limits.proofs.Keys.{Way, holds, fails, way, clash, among_sound}
 use Rattle.symbols.specs.declared.table.Table.{Table}
 use Rattle.symbols.specs.declared.kinds.Role.{Role as Told}
 use Rattle.symbols.specs.declared.kinds.Role.TheVariants as told
-use Rattle.symbols.specs.Entries.{Variable, Number, Symbol, blank, kind_entry, meant}
+use Rattle.symbols.specs.Entries.{Variable, Number, Spelling, Symbol, blank, kind_entry, meant}
 use Rattle.symbols.specs.Mentions.{Mention, uses_of, pending, address_in, Sound, index, use_refusal}
-use Rattle.symbols.specs.Table.{size, Holds, Keeps, mention, Taken, of_label, is_named, is_valued, known_refusal, room_refusal, AddsCell, AddsLabel, AddsName, PlacesLabel, cell_symbol, label_symbol}
+use Rattle.symbols.specs.Table.{size, Holds, Keeps, mention, Taken, Decides, of_label, is_named, is_valued, known_refusal, room_refusal, fault_at, Gives, first_address, AddsCell, AddsLabel, AddsName, PlacesLabel, cell_symbol, label_symbol}
 use Rattle.symbols.proofs.Firsts.{First, key_of}
 use Rattle.symbols.proofs.Exact as exact
 use Rattle.symbols.proofs.Exact.{definition_label, label_not_literal, kinds_agree, differs_from, pending_none, placed_below, key_name, name_key}
@@ -32,11 +34,39 @@ abbrev pub number_of : Option Refusal → maybe.Option ℕ
 number_of None = maybe.none
 number_of (Some x) = maybe.some (numbered x)
 
+-- a refusal that is found at the place of a use is answered there
+pub refuses : (w : Words) (b : Table) (seen : List Mention) (m : Mention) (r : Option Refusal) (f : Fault) (x : Result ℕ Fault) →
+    use_refusal w (uses_of seen) m.used ≡ number_of r → Some f ≡ option_map (fault_at m.place) r → x ≡ Err f → Decides w b seen m x
+refuses w b seen m None f x h e q = let z : ◌≡◌ {A = ℕ} 0 1 = cc in absurd (omega arith)
+refuses w b seen m (Some r) f x h e q =
+    let g : f ≡ fault_at m.place r = cc in
+    subst (Decides w b seen m) (sym q) (h ∙ ap (λ (y : Fault). maybe.some (numbered y.refusal)) (sym g), ap (λ (y : Fault). y.place) g)
+
+abbrev no_fault : Option Fault
+no_fault = None
+
+pub found_none : (p : ℕ) (x : Option Refusal) → no_fault ≡ option_map (fault_at p) x → x ≡ None
+found_none p None e = refl
+found_none p (Some r) e = let z : ◌≡◌ {A = ℕ} 0 1 = cc in absurd (omega arith)
+
 pub name_role : (r : Told) → is_literal (meant r) ≡ false
-name_role told.Definition = refl
+name_role (told.Definition a) = refl
 name_role told.Target = refl
 name_role told.Listed = refl
 name_role told.Variable = refl
+
+-- the first address of a label is that of a mention in its role, or none
+pub first_is : (r : Told) (address : ℕ) → Gives r address → first_address r ≡ cond (is_definition (meant r)) address pending
+first_is (told.Definition a) address g = g
+first_is told.Target address g = refl
+first_is told.Listed address g = refl
+first_is told.Variable address g = refl
+
+pub no_definition : (r : Told) → ((a : ℕ) → r ≡ told.Definition a → ⊥) → is_definition (meant r) ≡ false
+no_definition (told.Definition a) n = absurd (n a refl)
+no_definition told.Target n = refl
+no_definition told.Listed n = refl
+no_definition told.Variable n = refl
 
 none_some : (x : Refusal) → ◌≡◌ {A = Option Refusal} None (Some x) → ⊥
 none_some x e = let z : ◌≡◌ {A = ℕ} 0 1 = cc in omega arith
@@ -58,21 +88,21 @@ role_of_variable listed n e = absurd (clash refl e)
 role_of_variable variable_use n e = refl
 role_of_variable number_use n e = absurd (clash refl n)
 
--- a name r, s, of n bytes, at the place p
-module _ (w : Words) (a : Table) (seen : List Mention) (h : Holds w a seen) (r : Role) (s : List ℕ) (p n address : ℕ) (is_name : is_literal r ≡ false)
-    (sized : length s ≡ n) (snd : Sound a.text.now (mention r s p address)) where
+-- a name r, s, at a place
+module _ (w : Words) (a : Table) (seen : List Mention) (h : Holds w a seen) (r : Role) (s : List ℕ) (at : Spelling) (address : ℕ) (is_name : is_literal r ≡ false)
+    (sized : length s ≡ at.length) (snd : Sound a.text.now (mention r s at.place address)) where
   abbrev us : List Use
   us = uses_of seen
 
-  pub too_long : ltb name_limit n ≡ true → use_refusal w us (made r s) ≡ maybe.some 4
-  too_long e = exact.long_name w us r s is_name (let l = ltb-true name_limit n e in omega (arith, sized))
+  pub too_long : ltb name_limit at.length ≡ true → use_refusal w us (made r s) ≡ maybe.some 4
+  too_long e = exact.long_name w us r s is_name (let l = ltb-true name_limit at.length e in omega (arith, sized))
 
-  module _ (not-long : ltb name_limit n ≡ false) where
+  module _ (not-long : ltb name_limit at.length ≡ false) where
     short : length s ≤ name_limit
-    short = let l = ltb-false name_limit n not-long in omega (arith, sized)
+    short = let l = ltb-false name_limit at.length not-long in omega (arith, sized)
 
     -- it has the entry at i
-    module _ (i : ℕ) (low : i < size a) (found : is_named a.text.now p n (get_or a.symbols.now i blank) ≡ true) where
+    module _ (i : ℕ) (low : i < size a) (found : is_named a.text.now at (get_or a.symbols.now i blank) ≡ true) where
       abbrev f : First
       f = the w a seen h i
 
@@ -83,7 +113,7 @@ module _ (w : Words) (a : Table) (seen : List Mention) (h : Holds w a seen) (r :
       e = get_or a.symbols.now i blank
 
       its_name : Named q f.mention.used.spelling s
-      its_name = name_found w a seen h p n s sized snd.bytes i low found
+      its_name = name_found w a seen h at s sized snd.bytes i low found
 
       used_so : In (made q s) us
       used_so = subst (λ (x : List ℕ). In (made q x) us) its_name.spells (use_in seen f.mention (the_first w a seen h i low).is_in)
@@ -152,25 +182,25 @@ module _ (w : Words) (a : Table) (seen : List Mention) (h : Holds w a seen) (r :
         its_index : i ≡ index w (key_by w r s) (made r s ∷ us)
         its_index = sym (ap (λ b. cond b (index w (key_by w r s) us) (cells w us + labels w us)) is_known ∙ ap (λ x. index w x us) (sym its_key) ∙ (the_first w a seen h i low).at_index)
 
-        pub old_taken : is_definition r ≡ false → Taken w a seen (mention r s p address) i
-        old_taken d = record { no_refusal = no_refusal; holds = holds_old w a seen h (mention r s p address) no_refusal snd is_known d; is_index = its_index }
+        pub old_taken : is_definition r ≡ false → Taken w a seen (mention r s at.place address) i
+        old_taken d = record { no_refusal = no_refusal; holds = holds_old w a seen h (mention r s at.place address) no_refusal snd is_known d; is_index = its_index }
 
-        pub placed_taken : (b : Table) → is_definition r ≡ true → PlacesLabel a b i address → Taken w b seen (mention r s p address) i
+        pub placed_taken : (b : Table) → is_definition r ≡ true → PlacesLabel a b i address → Taken w b seen (mention r s at.place address) i
         placed_taken b d x =
             let l = definition_label r d in
             record {
               no_refusal = no_refusal;
-              holds = holds_placed w a seen h (mention r s p address) no_refusal snd is_known b i low (its_key ∙ label_keyed w r s l) (sym same_kind ∙ l) its_name.spells d x;
+              holds = holds_placed w a seen h (mention r s at.place address) no_refusal snd is_known b i low (its_key ∙ label_keyed w r s l) (sym same_kind ∙ l) its_name.spells d x;
               is_index = its_index;
             }
 
     -- it has none
-    module _ (missing : (i : ℕ) → i < size a → is_named a.text.now p n (get_or a.symbols.now i blank) ≡ false) where
+    module _ (missing : (i : ℕ) → i < size a → is_named a.text.now at (get_or a.symbols.now i blank) ≡ false) where
       no_label : known w (label_key s) us ≡ false
-      no_label = no_label_key w a seen h p n s sized snd.bytes missing
+      no_label = no_label_key w a seen h at s sized snd.bytes missing
 
       no_variable : known w (variable_key s) us ≡ false
-      no_variable = no_variable_key w a seen h p n s sized snd.bytes missing
+      no_variable = no_variable_key w a seen h at s sized snd.bytes missing
 
       pub room_number_is : use_refusal w us (made r s) ≡ number_of (room_refusal r a.celled a.labels)
       room_number_is = by (way (is_label r)) (way (leb label_limit a.labels)) (way (leb cell_limit a.celled))
@@ -214,48 +244,48 @@ module _ (w : Words) (a : Table) (seen : List Mention) (h : Holds w a seen) (r :
             by (holds m) = absurd (none_some TooManyCells (sym fine ∙ (λ j. cond (l j) (cond (leb label_limit a.labels) (Some TooManyLabels) None) (cond (m j) (Some TooManyCells) None))))
 
         -- where the label stands then
-        then_at : cond (is_definition r) address pending ≡ address_in (mention r s p address ∷ seen) s
+        then_at : cond (is_definition r) address pending ≡ address_in (mention r s at.place address ∷ seen) s
         then_at = by (way (is_definition r))
           where
             use_s : address_in seen s ≡ pending
             use_s = pending_none seen s (exact.no_definition w us r s is_name short no_label no_variable)
 
-            by : Way (is_definition r) → cond (is_definition r) address pending ≡ address_in (mention r s p address ∷ seen) s
-            by (holds d) = ap (λ b. cond b address pending) d ∙ sym (exact.defined_here seen (mention r s p address) d)
-            by (fails d) = ap (λ b. cond b address pending) d ∙ sym (exact.defined_not seen (mention r s p address) s d ∙ use_s)
+            by : Way (is_definition r) → cond (is_definition r) address pending ≡ address_in (mention r s at.place address ∷ seen) s
+            by (holds d) = ap (λ b. cond b address pending) d ∙ sym (exact.defined_here seen (mention r s at.place address) d)
+            by (fails d) = ap (λ b. cond b address pending) d ∙ sym (exact.defined_not seen (mention r s at.place address) s d ∙ use_s)
 
-        pub new_taken : (b : Table) → AddsName a b r p n address → Taken w b seen (mention r s p address) (size a)
+        pub new_taken : (b : Table) → AddsName a b r at (cond (is_definition r) address pending) → Taken w b seen (mention r s at.place address) (size a)
         new_taken b x = record { no_refusal = none_stands; holds = by (way (is_label r)); is_index = new_index }
           where
-            by : Way (is_label r) → Holds w b (mention r s p address ∷ seen)
+            by : Way (is_label r) → Holds w b (mention r s at.place address ∷ seen)
             by (holds l) =
-                let y : AddsLabel a b (label_symbol p n (cond (is_definition r) address pending)) =
-                subst (λ (z : Bool). cond z (AddsLabel a b (label_symbol p n (cond (is_definition r) address pending))) (AddsCell a b (cell_symbol Variable p n a.celled) (pos 0))) l x in
-                holds_label w a seen h (mention r s p address) none_stands snd new_key b (cond (is_definition r) address pending) l then_at no_label
-                (subst (λ (z : ℕ). AddsLabel a b (label_symbol p z (cond (is_definition r) address pending))) (sym sized) y) (few_labels l)
+                let y : AddsLabel a b (label_symbol at (cond (is_definition r) address pending)) =
+                subst (λ (z : Bool). cond z (AddsLabel a b (label_symbol at (cond (is_definition r) address pending))) (AddsCell a b (cell_symbol Variable at a.celled) (pos 0))) l x in
+                holds_label w a seen h (mention r s at.place address) none_stands snd new_key b (cond (is_definition r) address pending) l then_at no_label
+                (subst (λ (z : ℕ). AddsLabel a b (label_symbol (record { place = at.place; length = z }) (cond (is_definition r) address pending))) (sym sized) y) (few_labels l)
             by (fails l) =
-                let y : AddsCell a b (cell_symbol Variable p n a.celled) (pos 0) =
-                subst (λ (z : Bool). cond z (AddsLabel a b (label_symbol p n (cond (is_definition r) address pending))) (AddsCell a b (cell_symbol Variable p n a.celled) (pos 0))) l x in
-                holds_cell w a seen h (mention r s p address) none_stands snd new_key b Variable (pos 0) l (sym (role_of_variable r is_name l)) (sym (ap (λ z. cond z (word w s) (pos 0)) is_name))
-                (subst (λ (z : ℕ). AddsCell a b (cell_symbol Variable p z a.celled) (pos 0)) (sym sized) y) (few_cells l)
+                let y : AddsCell a b (cell_symbol Variable at a.celled) (pos 0) =
+                subst (λ (z : Bool). cond z (AddsLabel a b (label_symbol at (cond (is_definition r) address pending))) (AddsCell a b (cell_symbol Variable at a.celled) (pos 0))) l x in
+                holds_cell w a seen h (mention r s at.place address) none_stands snd new_key b Variable (pos 0) l (sym (role_of_variable r is_name l)) (sym (ap (λ z. cond z (word w s) (pos 0)) is_name))
+                (subst (λ (z : ℕ). AddsCell a b (cell_symbol Variable (record { place = at.place; length = z }) a.celled) (pos 0)) (sym sized) y) (few_cells l)
 
--- a number of n bytes, at the place p, with the word v
-module _ (w : Words) (a : Table) (seen : List Mention) (h : Holds w a seen) (s : List ℕ) (p n address : ℕ) (v : ℤ)
-    (sized : length s ≡ n) (snd : Sound a.text.now (mention number_use s p address)) (valued : word w s ≡ v) where
+-- a number at a place, with the word v
+module _ (w : Words) (a : Table) (seen : List Mention) (h : Holds w a seen) (s : List ℕ) (at : Spelling) (address : ℕ) (v : ℤ)
+    (sized : length s ≡ at.length) (snd : Sound a.text.now (mention number_use s at.place address)) (valued : word w s ≡ v) where
   abbrev uses : List Use
   uses = uses_of seen
 
   abbrev the_key : Key
   the_key = number_key (word w s)
 
-  pub number_old : (i : ℕ) → i < size a → is_valued a.cells.now v (get_or a.symbols.now i blank) ≡ true → Taken w a seen (mention number_use s p address) i
+  pub number_old : (i : ℕ) → i < size a → is_valued a.cells.now v (get_or a.symbols.now i blank) ≡ true → Taken w a seen (mention number_use s at.place address) i
   number_old i l e =
       let k : key_of w (the w a seen h i) ≡ the_key = number_found w a seen h v i l e ∙ ap number_key (sym valued) in
       let kn : known w the_key uses ≡ true = ap (λ x. known w x uses) (sym k) ∙ (the_first w a seen h i l).is_known in
       let none = exact.known_number w uses s kn in
       record {
         no_refusal = none;
-        holds = holds_old w a seen h (mention number_use s p address) none snd kn refl;
+        holds = holds_old w a seen h (mention number_use s at.place address) none snd kn refl;
         is_index = sym (ap (λ b. cond b (index w the_key uses) (cells w uses + labels w uses)) kn ∙ ap (λ x. index w x uses) (sym k) ∙ (the_first w a seen h i l).at_index);
       }
 
@@ -266,13 +296,13 @@ module _ (w : Words) (a : Table) (seen : List Mention) (h : Holds w a seen) (s :
     pub number_full : leb cell_limit a.celled ≡ true → use_refusal w uses (made number_use s) ≡ maybe.some 7
     number_full e = exact.full_number w uses s unknown (let x = leb-true cell_limit a.celled e in omega (arith, h.cell_count))
 
-    pub number_new : (b : Table) → leb cell_limit a.celled ≡ false → AddsCell a b (cell_symbol Number p n a.celled) v → Taken w b seen (mention number_use s p address) (size a)
+    pub number_new : (b : Table) → leb cell_limit a.celled ≡ false → AddsCell a b (cell_symbol Number at a.celled) v → Taken w b seen (mention number_use s at.place address) (size a)
     number_new b e x =
         let l = leb-false cell_limit a.celled e in
         let none = exact.new_number w uses s (omega (arith, h.cell_count)) in
         record {
           no_refusal = none;
-          holds = holds_cell w a seen h (mention number_use s p address) none snd unknown b Number v refl refl (sym valued) (subst (λ (z : ℕ). AddsCell a b (cell_symbol Number p z a.celled) v) (sym sized) x) l;
+          holds = holds_cell w a seen h (mention number_use s at.place address) none snd unknown b Number v refl refl (sym valued) (subst (λ (z : ℕ). AddsCell a b (cell_symbol Number (record { place = at.place; length = z }) a.celled) v) (sym sized) x) l;
           is_index = (λ i. h.cell_count i + h.label_count i) ∙ sym (ap (λ b. cond b (index w the_key uses) (cells w uses + labels w uses)) unknown);
         }
 
@@ -321,22 +351,22 @@ module _ (a b : Table) where
     cells_beyond = λ n l. ap (drop n) x.cells_are;
   }
 
-  pub keeps_name : (r : Role) (p n address : ℕ) → AddsName a b r p n address → Keeps a b
-  keeps_name r p n address x = by (way (is_label r))
+  pub keeps_name : (r : Role) (at : Spelling) (address : ℕ) → AddsName a b r at address → Keeps a b
+  keeps_name r at address x = by (way (is_label r))
     where
       by : Way (is_label r) → Keeps a b
-      by (holds l) = keeps_label _ (subst (λ (z : Bool). cond z (AddsLabel a b (label_symbol p n (cond (is_definition r) address pending))) (AddsCell a b (cell_symbol Variable p n a.celled) (pos 0))) l x)
-      by (fails l) = keeps_cell _ (pos 0) (subst (λ (z : Bool). cond z (AddsLabel a b (label_symbol p n (cond (is_definition r) address pending))) (AddsCell a b (cell_symbol Variable p n a.celled) (pos 0))) l x)
+      by (holds l) = keeps_label _ (subst (λ (z : Bool). cond z (AddsLabel a b (label_symbol at address)) (AddsCell a b (cell_symbol Variable at a.celled) (pos 0))) l x)
+      by (fails l) = keeps_cell _ (pos 0) (subst (λ (z : Bool). cond z (AddsLabel a b (label_symbol at address)) (AddsCell a b (cell_symbol Variable at a.celled) (pos 0))) l x)
 
-  pub name_size : (r : Role) (p n address : ℕ) → AddsName a b r p n address → size b ≡ size a + 1
-  name_size r p n address x = by (way (is_label r))
+  pub name_size : (r : Role) (at : Spelling) (address : ℕ) → AddsName a b r at address → size b ≡ size a + 1
+  name_size r at address x = by (way (is_label r))
     where
       by : Way (is_label r) → size b ≡ size a + 1
       by (holds l) =
-          let y = subst (λ (z : Bool). cond z (AddsLabel a b (label_symbol p n (cond (is_definition r) address pending))) (AddsCell a b (cell_symbol Variable p n a.celled) (pos 0))) l x in
+          let y = subst (λ (z : Bool). cond z (AddsLabel a b (label_symbol at address)) (AddsCell a b (cell_symbol Variable at a.celled) (pos 0))) l x in
           omega (arith, y.celled_are, y.labels_are)
       by (fails l) =
-          let y = subst (λ (z : Bool). cond z (AddsLabel a b (label_symbol p n (cond (is_definition r) address pending))) (AddsCell a b (cell_symbol Variable p n a.celled) (pos 0))) l x in
+          let y = subst (λ (z : Bool). cond z (AddsLabel a b (label_symbol at address)) (AddsCell a b (cell_symbol Variable at a.celled) (pos 0))) l x in
           omega (arith, y.celled_are, y.labels_are)
 
   pub keeps_placed : (i address : ℕ) → i < size a → PlacesLabel a b i address → Keeps a b

@@ -1,6 +1,6 @@
 -- What is read from the table: the entry of a use, and the earliest label that stands before no command.
-use Rattle.std.proofs.Common.{◌≡◌, ℕ, zero, suc, ◌+◌, ◌<◌, Bool, true, false, cond, not, ◌&&◌, eqb, ◌⊎◌, List, [], ◌∷◌, ◌++◌, length, get_or, sym, refl, ap, ◌∙◌, subst, inl, inr, arith}
-use mathlib.Core.Option.{Option, none, some}
+use Rattle.std.proofs.Common.{◌≡◌, ℕ, zero, suc, ◌+◌, ◌<◌, Bool, true, false, cond, not, ◌&&◌, eqb, ◌⊎◌, List, [], ◌∷◌, ◌++◌, length, get_or, Some, None, Option, sym, refl, ap, ◌∙◌, subst, inl, inr, arith}
+use mathlib.Core.Option.{Option as Maybe, none, some}
 use Rattle.arithmetic.specs.Words.{Words}
 use Rattle.limits.specs.Uses.{Role, definition, target, listed, variable_use, number_use, Use, made, In, is_definition, is_label, Key, label_key, variable_key, number_key, key_by, key, known}
 use Rattle.limits.specs.Rules.{Refused}
@@ -10,7 +10,7 @@ use Rattle.limits.proofs.Keys.{Way, holds, fails, way, known_complete}
 use Rattle.symbols.specs.declared.table.Table.{Table}
 use Rattle.symbols.specs.Entries.{Symbol, blank, entry, kind_entry}
 use Rattle.symbols.specs.Mentions.{Mention, uses_of, pending, address_in, index, earliest_unmet}
-use Rattle.symbols.specs.Table.{size, Holds, Describes, is_pending}
+use Rattle.symbols.specs.Table.{size, Holds, Describes, Described, EntryRead, is_pending}
 use Rattle.symbols.proofs.Firsts.{First, no_first, entered, key_of, firsts, firsts_old, firsts_new, first_at, Has, has_first}
 use Rattle.symbols.proofs.Exact.{in_cases, pending_none, placed_below}
 use Rattle.symbols.proofs.Finding.{the, firsts_size, entry_at, the_first, label_role}
@@ -90,6 +90,11 @@ module _ (w : Words) (t : Table) (seen : List Mention) (h : Holds w t seen) wher
                 ∙ sym (at_is w (address_in seen) (first_cell + cells_before w (key w u) us) u.role u.spelling);
           }
 
+      -- what is read there
+      pub described : (x : Option Symbol) → EntryRead t i x → Described w seen u x
+      described None r = absurd (omega (arith, r, index_low))
+      described (Some s) r = subst (λ (x : Symbol). Describes w seen u x) (sym r.1) describes
+
   -- an entry is pending exactly if its label has no definition
   module _ (i : ℕ) (l : i < size t) where
     abbrev f : First
@@ -113,17 +118,17 @@ module _ (w : Words) (t : Table) (seen : List Mention) (h : Holds w t seen) wher
             (λ j. (label_role q ∙ e) j && eqb (cond (e j) (pending_none seen s m j) (first_cell + f.before)) pending) ∙ sym (λ j. e j && not (m j))
 
 -- The earliest such mention is a first one.
-pub or_none : {A : Type 0} (x : Option A) → or_else x none ≡ x
+pub or_none : {A : Type 0} (x : Maybe A) → or_else x none ≡ x
 or_none none = refl
 or_none (some x) = refl
 
-pub or_assoc : {A : Type 0} (x y z : Option A) → or_else x (or_else y z) ≡ or_else (or_else x y) z
+pub or_assoc : {A : Type 0} (x y z : Maybe A) → or_else x (or_else y z) ≡ or_else (or_else x y) z
 or_assoc none y z = refl
 or_assoc (some x) y z = refl
 
 module _ (us : List Use) where
   -- refusal 12 at one mention
-  abbrev one : Mention → Option Refused
+  abbrev one : Mention → Maybe Refused
   one m = refused (unmet us (some m.used)) m.place
 
   one_none : (m : Mention) → bad us m.used ≡ false → one m ≡ none
@@ -132,7 +137,7 @@ module _ (us : List Use) where
   one_some : (m : Mention) → bad us m.used ≡ true → one m ≡ some (record { number = 12; place = m.place })
   one_some m e = ap (λ b. refused (cond b (some 12) none) m.place) e
 
-  abbrev scan : List First → Option Refused
+  abbrev scan : List First → Maybe Refused
   scan [] = none
   scan (f ∷ fs) = or_else (one f.mention) (scan fs)
 
@@ -144,7 +149,7 @@ module _ (us : List Use) where
   earliest_some [] m i e = elim i [ ]
   earliest_some (v ∷ seen) m i e = by (in_cases i) (λ j. earliest_some seen m j e)
     where
-      first_of : (a b : Option Refused) (y : Refused) → b ≡ some y → (x : Refused) × (or_else a b ≡ some x)
+      first_of : (a b : Maybe Refused) (y : Refused) → b ≡ some y → (x : Refused) × (or_else a b ≡ some x)
       first_of none b y p = (y, p)
       first_of (some z) b y p = (z, refl)
 
@@ -188,8 +193,8 @@ module _ (w : Words) (t : Table) (seen : List Mention) (h : Holds w t seen) wher
       (let m : i < size t = omega (arith, firsts_size w t seen h) in sym (pending_is w t seen h i m) ∙ e i m)))
 
   pub some_pending : (i : ℕ) → i < size t → is_pending (get_or t.symbols.now i blank) ≡ true → ((k : ℕ) → k < i → is_pending (get_or t.symbols.now k blank) ≡ false) →
-      some (record { number = 12; place = (get_or t.symbols.now i blank).place }) ≡ earliest_unmet (uses_of seen) seen
+      some (record { number = 12; place = (get_or t.symbols.now i blank).spelling.place }) ≡ earliest_unmet (uses_of seen) seen
   some_pending i l b e =
-      ap (λ (s : Symbol). some (record { number = 12; place = s.place })) (entry_at w t seen h i l)
+      ap (λ (s : Symbol). some (record { number = 12; place = s.spelling.place })) (entry_at w t seen h i l)
       ∙ sym (earliest_is (uses_of seen) w seen ∙ scan_some (uses_of seen) (firsts w seen) i (omega (arith, firsts_size w t seen h)) (sym (pending_is w t seen h i l) ∙ b)
       (λ k m. (let n : k < size t = omega arith in sym (pending_is w t seen h k n) ∙ e k m)))

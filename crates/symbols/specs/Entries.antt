@@ -5,6 +5,7 @@ use Rattle.limits.specs.Symbols.{variable_kind, number_kind, label_kind}
 use Rattle.limits.specs.Symbols as table
 pub use Rattle.symbols.specs.declared.kinds.Kind.{Kind}
 pub use Rattle.symbols.specs.declared.kinds.Kind.TheVariants.{Blank, Variable, Number, Label}
+pub use Rattle.symbols.specs.declared.kinds.Spelling.{Spelling}
 pub use Rattle.symbols.specs.declared.kinds.Symbol.{Symbol}
 pub use Rattle.symbols.specs.declared.kinds.Role.{Role}
 use Rattle.symbols.specs.declared.kinds.Role.TheVariants as role
@@ -17,7 +18,7 @@ kind_number Label = 3
 
 -- an entry of memory in which no symbol stands
 abbrev pub blank : Symbol
-blank = record { kind = Blank; place = 0; length = 0; at = 0 }
+blank = record { kind = Blank; spelling = record { place = 0; length = 0 }; at = 0 }
 
 -- the kind and the entry of a symbol
 abbrev pub kind_entry : table.Kind → Kind
@@ -26,15 +27,15 @@ kind_entry number_kind = Number
 kind_entry label_kind = Label
 
 abbrev pub entry : table.Symbol → Symbol
-entry s = record { kind = kind_entry s.kind; place = s.place; length = s.length; at = s.at }
+entry s = record { kind = kind_entry s.kind; spelling = record { place = s.place; length = s.length }; at = s.at }
 
 -- the role of a name, among those of all uses
 abbrev pub meant : Role → limits.Role
-meant role.Definition = limits.definition
+meant (role.Definition address) = limits.definition
 meant role.Target = limits.target
 meant role.Listed = limits.listed
 meant role.Variable = limits.variable_use
 
 -- the bytes of a spelling, as far as the text has them
-abbrev pub part : List ℕ → ℕ → ℕ → List ℕ
-part text place size = take size (drop place text)
+abbrev pub part : List ℕ → Spelling → List ℕ
+part text s = take s.length (drop s.place text)

@@ -14,7 +14,9 @@ use Rattle.limits.specs.Rules.{cell_limit, label_limit, Refused}
 use Rattle.limits.specs.Refusals.{unlike}
 use Rattle.limits.specs.Symbols.{first_cell, kind_of, cells_before}
 use Rattle.symbols.specs.declared.table.Table.{Table}
-use Rattle.symbols.specs.Entries.{Kind, Blank, Variable, Number, Label, Symbol, blank, entry, kind_entry, part}
+use Rattle.symbols.specs.declared.kinds.Role.{Role as Told}
+use Rattle.symbols.specs.declared.kinds.Role.TheVariants as told
+use Rattle.symbols.specs.Entries.{Kind, Blank, Variable, Number, Label, Spelling, Symbol, blank, entry, kind_entry, meant, part}
 use Rattle.symbols.specs.Mentions.{Mention, uses_of, pending, address_in, Sound, AllSound, entries, index, contents, use_refusal, Accepted, earliest_unmet}
 
 -- how many entries are in use
@@ -72,27 +74,34 @@ abbrev pub Answers : Table → Table → Result ℕ Fault → Type 0
 Answers a b (Ok i) = i < size b
 Answers a b (Err f) = b ≡ a
 
--- a name is told: a spelling s of as many bytes, which stands in the text at the place p
-abbrev pub NameTold : Table → Table → Role → ℕ → ℕ → ℕ → Result ℕ Fault → Type 0
-NameTold a b r p n address x =
-    (w : Words) (seen : List Mention) (s : List ℕ) → Holds w a seen → length s ≡ n → Sound a.text.now (mention r s p address) →
-    Decides w b seen (mention r s p address) x
+-- a mention in a role has an address: the one that the role gives its label, if the name stands before a command, and else any
+abbrev pub Gives : Told → ℕ → Type 0
+Gives (told.Definition a) address = a ≡ address
+Gives told.Target address = Unit {0}
+Gives told.Listed address = Unit {0}
+Gives told.Variable address = Unit {0}
 
--- a number is told: digits that stand in the text at the place p
-abbrev pub DigitsTold : Words → Table → Table → ℕ → ℕ → Result ℕ Fault → Type 0
-DigitsTold w a b p n x =
-    (seen : List Mention) (s : List ℕ) (address : ℕ) → Holds w a seen → length s ≡ n → Sound a.text.now (mention number_use s p address) → every digit s ≡ true →
-    Decides w b seen (mention number_use s p address) x
+-- a name is told: bytes s, which stand in the text at the place
+abbrev pub NameTold : Table → Table → Told → Spelling → Result ℕ Fault → Type 0
+NameTold a b r at x =
+    (w : Words) (seen : List Mention) (s : List ℕ) (address : ℕ) → Holds w a seen → length s ≡ at.length → Gives r address →
+    Sound a.text.now (mention (meant r) s at.place address) → Decides w b seen (mention (meant r) s at.place address) x
+
+-- a number is told: digits that stand in the text at the place
+abbrev pub DigitsTold : Words → Table → Table → Spelling → Result ℕ Fault → Type 0
+DigitsTold w a b at x =
+    (seen : List Mention) (s : List ℕ) (address : ℕ) → Holds w a seen → length s ≡ at.length → Sound a.text.now (mention number_use s at.place address) → every digit s ≡ true →
+    Decides w b seen (mention number_use s at.place address) x
 
 -- other bytes are no number, and are refused as no program
-abbrev pub NoDigitsTold : Table → ℕ → ℕ → Result ℕ Fault → Type 0
-NoDigitsTold a p n x = every digit (part a.text.now p n) ≡ false → x ≡ Err (record { refusal = NoProgram; place = p })
+abbrev pub NoDigitsTold : Table → Spelling → Result ℕ Fault → Type 0
+NoDigitsTold a at x = every digit (part a.text.now at) ≡ false → x ≡ Err (record { refusal = NoProgram; place = at.place })
 
 -- a number is told, which has the word v
-abbrev pub NumberTold : Table → Table → ℕ → ℕ → ℤ → Result ℕ Fault → Type 0
-NumberTold a b p n v x =
-    (w : Words) (seen : List Mention) (s : List ℕ) (address : ℕ) → Holds w a seen → length s ≡ n → Sound a.text.now (mention number_use s p address) → word w s ≡ v →
-    Decides w b seen (mention number_use s p address) x
+abbrev pub NumberTold : Table → Table → Spelling → ℤ → Result ℕ Fault → Type 0
+NumberTold a b at v x =
+    (w : Words) (seen : List Mention) (s : List ℕ) (address : ℕ) → Holds w a seen → length s ≡ at.length → Sound a.text.now (mention number_use s at.place address) → word w s ≡ v →
+    Decides w b seen (mention number_use s at.place address) x
 
 -- A table that is just made, with enough memory, holds no uses.
 abbrev pub Fresh : Table → Type 0
@@ -148,8 +157,8 @@ of_number Number = true
 of_number Label = false
 
 -- the entry has the name that stands at a place
-abbrev pub is_named : List ℕ → ℕ → ℕ → Symbol → Bool
-is_named text place n s = has_name s.kind && (s.length == n && bytes_eq (part text s.place s.length) (part text place n))
+abbrev pub is_named : List ℕ → Spelling → Symbol → Bool
+is_named text at s = has_name s.kind && (s.spelling.length == at.length && bytes_eq (part text s.spelling) (part text at))
 
 -- the entry is that of a number whose cell holds the word
 abbrev pub is_valued : List ℤ → ℤ → Symbol → Bool
@@ -159,10 +168,14 @@ is_valued cells v s = of_number s.kind && (nat_lt s.at (length cells) && same_wo
 abbrev pub is_pending : Symbol → Bool
 is_pending s = of_label s.kind && s.at == pending
 
+-- of the first n entries one is the first to answer true, or all answer false, where P relates an entry to its answer
+abbrev pub FoundBy : (Symbol → Bool → Type 0) → List Symbol → ℕ → Option ℕ → Type 0
+FoundBy P xs n None = (k : ℕ) → k < n → P (slice_index_or xs k blank) false
+FoundBy P xs n (Some i) = (i < n) × P (slice_index_or xs i blank) true × ((k : ℕ) → k < i → P (slice_index_or xs k blank) false)
+
 -- one of the first n entries passes a test, or none does
 abbrev pub Found : (Symbol → Bool) → List Symbol → ℕ → Option ℕ → Type 0
-Found test xs n None = (k : ℕ) → k < n → test (slice_index_or xs k blank) ≡ false
-Found test xs n (Some i) = (i < n) × (test (slice_index_or xs i blank) ≡ true) × ((k : ℕ) → k < i → test (slice_index_or xs k blank) ≡ false)
+Found test xs n x = FoundBy (λ e b. test e ≡ b) xs n x
 
 -- Refusals, by what is found.
 
@@ -175,6 +188,10 @@ known_refusal r s =
 -- of a name that has none, with so many cells and labels in use
 abbrev pub room_refusal : Role → ℕ → ℕ → Option Refusal
 room_refusal r c l = cond (is_label r) (cond (nat_le label_limit l) (Some TooManyLabels) None) (cond (nat_le cell_limit c) (Some TooManyCells) None)
+
+-- a refusal at a place of the text
+abbrev pub fault_at : ℕ → Refusal → Fault
+fault_at p r = record { refusal = r; place = p }
 
 -- there is no memory for one symbol more, a label or one with a cell
 abbrev pub is_short : Bool → Table → Bool
@@ -192,11 +209,11 @@ pub record Becomes (a b : Table) (ss : List Symbol) (cs : List ℤ) (c l : ℕ) 
   pub celled_are : b.celled ≡ c
   pub labels_are : b.labels ≡ l
 
-abbrev pub cell_symbol : Kind → ℕ → ℕ → ℕ → Symbol
-cell_symbol k p n c = record { kind = k; place = p; length = n; at = first_cell + c }
+abbrev pub cell_symbol : Kind → Spelling → ℕ → Symbol
+cell_symbol k s c = record { kind = k; spelling = s; at = first_cell + c }
 
-abbrev pub label_symbol : ℕ → ℕ → ℕ → Symbol
-label_symbol p n address = record { kind = Label; place = p; length = n; at = address }
+abbrev pub label_symbol : Spelling → ℕ → Symbol
+label_symbol s address = record { kind = Label; spelling = s; at = address }
 
 -- one more symbol with a cell that begins with v; one more label; a label gets its address
 abbrev pub AddsCell : Table → Table → Symbol → ℤ → Type 0
@@ -206,11 +223,18 @@ abbrev pub AddsLabel : Table → Table → Symbol → Type 0
 AddsLabel a b s = Becomes a b (slice_set a.symbols.now (size a) s) a.cells.now a.celled (a.labels + 1)
 
 abbrev pub moved_to : ℕ → Symbol → Symbol
-moved_to address s = record { kind = s.kind; place = s.place; length = s.length; at = address }
+moved_to address s = record { kind = s.kind; spelling = s.spelling; at = address }
 
 abbrev pub PlacesLabel : Table → Table → ℕ → ℕ → Type 0
 PlacesLabel a b i address = Becomes a b (slice_set a.symbols.now i (moved_to address (slice_index_or a.symbols.now i blank))) a.cells.now a.celled a.labels
 
--- a new name
-abbrev pub AddsName : Table → Table → Role → ℕ → ℕ → ℕ → Type 0
-AddsName a b r p n address = cond (is_label r) (AddsLabel a b (label_symbol p n (cond (is_definition r) address pending))) (AddsCell a b (cell_symbol Variable p n a.celled) (pos 0))
+-- where a new label stands: where its role says, or before no command yet
+abbrev pub first_address : Told → ℕ
+first_address (told.Definition a) = a
+first_address told.Target = pending
+first_address told.Listed = pending
+first_address told.Variable = pending
+
+-- a new name; a label stands at the address
+abbrev pub AddsName : Table → Table → Role → Spelling → ℕ → Type 0
+AddsName a b r s address = cond (is_label r) (AddsLabel a b (label_symbol s address)) (AddsCell a b (cell_symbol Variable s a.celled) (pos 0))

@@ -1,12 +1,11 @@
 // What an entry says of a name, and which refusal stands at a name, by its entry.
 ghost use Rattle.std.specs.Prelude.{◌≡◌, ◌+◌, ◌<◌, true, false, ◌&&◌, nat_le, nat_lt};
-ghost use Rattle.std.specs.Str.{bytes_eq};
-ghost use Rattle.limits.specs.Uses.{is_definition, is_label};
+ghost use Rattle.std.specs.Result.{result_err};
 ghost use Rattle.limits.specs.Rules.{name_limit, cell_limit};
-ghost use Rattle.symbols.specs.Entries.{meant, part};
-ghost use Rattle.symbols.specs.Table.{has_name, of_label, of_number, is_named, is_pending, known_refusal, room_refusal};
+ghost use Rattle.symbols.specs.Entries.{meant};
+ghost use Rattle.symbols.specs.Table.{is_named, is_pending, known_refusal, room_refusal};
 
-use crate::kinds::{Kind, Role, Symbol};
+use crate::kinds::{Role, Spelling, Symbol};
 use fault::Refusal;
 
 // The most bytes of a name, cells for variables and numbers, and labels.
@@ -17,6 +16,7 @@ const CELLS: u16 = 446;
 const LABELS: u16 = 256;
 
 // The address of a label that stands before no command yet.
+// It is a number, and no Option, since entries are plain numbers in memory that the caller lends and hands to other languages.
 pub const PENDING: u16 = 65535;
 
 // Whether all cells for variables and numbers are in use.
@@ -26,131 +26,53 @@ pub fn is_full(celled: u16) -> bool
     celled >= CELLS
 }
 
-// Whether a name stands before a command, as its label.
-pub fn defines(role: Role) -> bool
-    ensures { result ≡ is_definition (meant role) }
-{
-    match role {
-        Role::Definition => true,
-        _ => false,
-    }
-}
-
-// Whether a name is used as a label.
-pub fn names_label(role: Role) -> bool
-    ensures { result ≡ is_label (meant role) }
-{
-    match role {
-        Role::Variable => false,
-        _ => true,
-    }
-}
-
-// Whether an entry of this kind has a name: it is that of a variable or a label.
-pub fn has_name(kind: Kind) -> bool
-    ensures { result ≡ has_name kind }
-{
-    match kind {
-        Kind::Variable | Kind::Label => true,
-        _ => false,
-    }
-}
-
-// Whether an entry of this kind is that of a label.
-pub fn of_label(kind: Kind) -> bool
-    ensures { result ≡ of_label kind }
-{
-    match kind {
-        Kind::Label => true,
-        _ => false,
-    }
-}
-
-// Whether an entry of this kind is that of a number.
-pub fn of_number(kind: Kind) -> bool
-    ensures { result ≡ of_number kind }
-{
-    match kind {
-        Kind::Number => true,
-        _ => false,
-    }
-}
-
 // Whether a name is too long.
-pub fn is_long(length: u16) -> bool
-    ensures { result ≡ nat_lt name_limit length }
+pub fn is_long(spelling: Spelling) -> bool
+    ensures { result ≡ nat_lt name_limit spelling.length }
 {
-    length > NAME
-}
-
-// The bytes of a spelling, as far as the text has them.
-pub fn spelled<'t>(text: &'t [u8], place: u16, length: u16) -> &'t [u8]
-    ensures { result.now ≡ part text.now place length }
-{
-    let start = place as usize;
-    let count = length as usize;
-    if start >= text.len() {
-        return &text[0..0];
-    }
-    if count > text.len() - start {
-        return &text[start..];
-    }
-    &text[start..start + count]
-}
-
-// Whether two rows of bytes are the same.
-pub fn same(a: &[u8], b: &[u8]) -> bool
-    ensures { result ≡ bytes_eq a.now b.now }
-{
-    a == b
+    spelling.length > NAME
 }
 
 // Whether an entry has the name that stands at a place. Kind and length are compared before the bytes.
-pub fn is_named(text: &[u8], place: u16, length: u16, s: Symbol) -> bool
-    ensures { result ≡ is_named text.now place length s }
+pub fn is_named(text: &[u8], spelling: Spelling, s: Symbol) -> bool
+    ensures { result ≡ is_named text.now spelling s }
 {
-    if !has_name(s.kind) || s.length != length {
-        return false;
-    }
-    same(
-        spelled(text, s.place, s.length),
-        spelled(text, place, length),
-    )
+    s.kind.has_name()
+        && s.spelling.length == spelling.length
+        && s.spelling.bytes(text) == spelling.bytes(text)
 }
 
-// The refusal of a name that has an entry.
-pub fn known_refusal(role: Role, s: Symbol) -> Option<Refusal>
-    ensures { result ≡ known_refusal (meant role) s }
+// Refuses a name that has an entry, if it may not be used so.
+pub fn check_known(role: Role, s: Symbol) -> Result<(), Refusal>
+    ensures { result_err result ≡ known_refusal (meant role) s }
 {
-    let label = of_label(s.kind);
-    if defines(role) && label && s.at != PENDING {
-        return Some(Refusal::DuplicateLabel);
+    let label = s.kind.is_label();
+    if role.is_definition() && label && s.at != PENDING {
+        return Err(Refusal::DuplicateLabel);
     }
-    if names_label(role) != label {
-        return Some(Refusal::MixedKind);
+    if role.is_label() != label {
+        return Err(Refusal::MixedKind);
     }
-    None
+    Ok(())
 }
 
-// The refusal of a name that has none.
-pub fn room_refusal(role: Role, celled: u16, labels: u16) -> Option<Refusal>
-    ensures { result ≡ room_refusal (meant role) celled labels }
+// Refuses a name that has none, if there are too many of its kind.
+pub fn check_room(role: Role, celled: u16, labels: u16) -> Result<(), Refusal>
+    ensures { result_err result ≡ room_refusal (meant role) celled labels }
 {
-    if names_label(role) {
+    if role.is_label() {
         if labels >= LABELS {
-            return Some(Refusal::TooManyLabels);
+            return Err(Refusal::TooManyLabels);
         }
-        return None;
+    } else if is_full(celled) {
+        return Err(Refusal::TooManyCells);
     }
-    if is_full(celled) {
-        return Some(Refusal::TooManyCells);
-    }
-    None
+    Ok(())
 }
 
 // Whether an entry is that of a label that stands before no command yet.
 pub fn is_pending(s: Symbol) -> bool
     ensures { result ≡ is_pending s }
 {
-    of_label(s.kind) && s.at == PENDING
+    s.kind.is_label() && s.at == PENDING
 }

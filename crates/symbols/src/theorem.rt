@@ -2,23 +2,17 @@
 ghost use Rattle.symbols.specs.Laws.{OfTokens, OfUses, Kept};
 
 // A table that was told all names and numbers of a list of tokens is the table of these tokens.
-pub fn table_is_exact() -> u8
+pub fn table_is_exact()
     ensures { OfTokens }
-{
-    0
-}
+{}
 
 // Without refusal 702 symbols and 512 cells are enough, each symbol has an index of its own, and a label is pending exactly
 // if it stands before no command.
-pub fn memory_suffices() -> u8
+pub fn memory_suffices()
     ensures { OfUses }
-{
-    0
-}
+{}
 
 // What calls keep of lent memory, they keep one after the other.
-pub fn calls_keep() -> u8
+pub fn calls_keep()
     ensures { Kept }
-{
-    0
-}
+{}

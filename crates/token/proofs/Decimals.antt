@@ -1,10 +1,10 @@
 -- One digit more.
-use Rattle.std.proofs.Common.{◌≡◌, ℕ, zero, suc, ◌+◌, ◌-◌, ◌*◌, ◌^◌, ◌<◌, ◌≤◌, Bool, true, false, cond, leb, List, [], ◌∷◌, ◌++◌, length, get_or, ℤ, pos, ◌+ℤ◌, ◌*ℤ◌, Some, None, Option, sym, ap, ◌∙◌, le_of_suc-le-suc, not-suc-le-zero, mul_assoc, mul_comm, add-one, arith}
+use Rattle.std.proofs.Common.{◌≡◌, ℕ, ◌+◌, ◌-◌, ◌*◌, ◌^◌, ◌≤◌, Bool, true, cond, leb, List, [], ◌∷◌, ◌++◌, length, ℤ, pos, ◌+ℤ◌, ◌*ℤ◌, Some, None, sym, ap, ◌∙◌, mul_assoc, mul_comm, add-one, arith}
+use mathlib.Core.Logic.{inl, inr}
 use native.Mathlib.Nat.{pow-succ'}
 use Rattle.std.proofs.lemmas.List.{length_push}
-use Rattle.std.proofs.lemmas.Bool.{and_left, and_right, and_parts, and_from, leb-true}
-use Rattle.std.proofs.lemmas.Int.{ints}
-use Rattle.token.proofs.Pieces.{Way, holds, fails, way}
+use Rattle.std.proofs.lemmas.Bool.{cases_Bool, and_parts, and_from, leb-true}
+use Rattle.token.proofs.Pieces.{Way}
 use Rattle.arithmetic.specs.Words.{Words, Lawful}
 use Rattle.token.specs.Lexis.{digit}
 use Rattle.token.specs.Numbers.{every, decimal, word}
@@ -13,11 +13,6 @@ pub every_push : (test : ℕ → Bool) (bs : List ℕ) (b : ℕ) → every test 
 every_push test [] b h e = rw e
 every_push test (x ∷ bs) b h e =
     let p = and_parts (test x) (every test bs) h in and_from (test x) _ p.0 (every_push test bs b p.1 e)
-
-pub every_fails : (test : ℕ → Bool) (bs : List ℕ) (i : ℕ) → i < length bs → test (get_or bs i 0) ≡ false → every test bs ≡ false
-every_fails test [] i h e = absurd (not-suc-le-zero h)
-every_fails test (x ∷ bs) zero h e = and_left (test x) _ e
-every_fails test (x ∷ bs) (suc i) h e = and_right (test x) _ (every_fails test bs i (le_of_suc-le-suc h) e)
 
 pub decimal_push : (bs : List ℕ) (b : ℕ) → decimal (bs ++ (b ∷ [])) ≡ 10 * decimal bs + (b - 48)
 decimal_push [] b = omega arith
@@ -30,10 +25,6 @@ decimal_push (x ∷ bs) b =
     let d = decimal_push bs b in
     (λ i. m i + d i) ∙ omega arith
 
--- nothing yet
-pub word_none : (w : Words) → Lawful w → pos 0 ≡ word w []
-word_none w l = sym (l.same (pos 0) (omega (arith, ints, l.low.1), omega (arith, ints, l.high.0)))
-
 pub word_push : (w : Words) → Lawful w → (bs : List ℕ) (b : ℕ) → digit b ≡ true → w.fit ((pos 10 *ℤ word w bs) +ℤ pos (b - 48)) ≡ word w (bs ++ (b ∷ []))
 word_push w l bs b e =
     let small : b ≤ 57 = leb-true b 57 (and_parts (leb 48 b) (leb b 57) e).1 in
@@ -41,22 +32,11 @@ word_push w l bs b e =
 
 -- what a digit's value says
 pub digit_some : (b d : ℕ) → Some d ≡ cond (digit b) (Some (b - 48)) None → (digit b ≡ true) × (d ≡ b - 48)
-digit_some b d e = by (way (digit b)) e
+digit_some b d e = by (cases_Bool (digit b)) e
   where
     by : Way (digit b) → Some d ≡ cond (digit b) (Some (b - 48)) None → (digit b ≡ true) × (d ≡ b - 48)
-    by (holds h) e = let f : Some d ≡ Some (b - 48) = rw h at e in (h, cc)
-    by (fails h) e = let f : Some d ≡ None = rw h at e in let z : ◌≡◌ {A = ℕ} 0 1 = cc in absurd (omega arith)
-
--- `None` at a number
-abbrev none : Option ℕ
-none = None
-
-pub digit_none : (b : ℕ) → none ≡ cond (digit b) (Some (b - 48)) None → digit b ≡ false
-digit_none b e = by (way (digit b)) e
-  where
-    by : Way (digit b) → none ≡ cond (digit b) (Some (b - 48)) None → digit b ≡ false
-    by (holds h) e = let f : none ≡ Some (b - 48) = rw h at e in let z : ◌≡◌ {A = ℕ} 0 1 = cc in absurd (omega arith)
-    by (fails h) e = h
+    by (inl h) e = let f : Some d ≡ Some (b - 48) = rw h at e in (h, cc)
+    by (inr h) e = let f : Some d ≡ None = rw h at e in let z : ◌≡◌ {A = ℕ} 0 1 = cc in absurd (omega arith)
 
 -- the word so far, z, and one digit more
 pub word_more : (w : Words) → Lawful w → (bs : List ℕ) (b d : ℕ) {z r : ℤ} → z ≡ word w bs → digit b ≡ true → d ≡ b - 48 → r ≡ w.fit ((pos 10 *ℤ z) +ℤ pos d) → r ≡ word w (bs ++ (b ∷ []))

@@ -1,22 +1,24 @@
 -- What is found by its bytes: keywords and signs.
 use Rattle.std.proofs.Common.{◌≡◌, ℕ, List, [], ◌∷◌, Some, None, refl, ap, ◌∙◌, arith}
+use mathlib.Core.Logic.{inl, inr}
+use Rattle.std.proofs.lemmas.Bool.{cases_Bool}
 use Rattle.std.specs.Str.{bytes_eq}
 use Rattle.std.proofs.lemmas.Slice.Eq.{bytes_eq-Decides}
 use Rattle.token.specs.Tokens.{Keyword, End, Let, Go, To, Of, Read, Print, If, Then, Else, Sign, Semicolon, Colon, Becomes, Plus, Minus, Times, Over, Open, Close, Comma, Greater, Equal, Less}
 use Rattle.token.specs.Lexis.{find, spelling, reserved, characters, sign_of}
-use Rattle.token.proofs.Pieces.{Way, holds, fails, way}
+use Rattle.token.proofs.Pieces.{Way}
 
 -- what is found is written so
 pub found : {A : Type 0} (text : A → List ℕ) (xs : List A) (bytes : List ℕ) (x : A) → find text xs bytes ≡ Some x → bytes ≡ text x
 found text [] bytes x e = let z : ◌≡◌ {A = ℕ} 0 1 = cc in absurd (omega arith)
-found {A} text (y ∷ ys) bytes x e = by (way (bytes_eq bytes (text y))) (found text ys bytes x) e
+found {A} text (y ∷ ys) bytes x e = by (cases_Bool (bytes_eq bytes (text y))) (found text ys bytes x) e
   where
     by : Way (bytes_eq bytes (text y)) → (find text ys bytes ≡ Some x → bytes ≡ text x) → find text (y ∷ ys) bytes ≡ Some x → bytes ≡ text x
-    by (holds h) more e =
+    by (inl h) more e =
         let f : Some y ≡ Some x = rw h at e in
         let g : y ≡ x = cc in
         (bytes_eq-Decides bytes (text y)).0 h ∙ ap text g
-    by (fails h) more e = more (rw h at e)
+    by (inr h) more e = more (rw h at e)
 
 pub reserved_spelling : (k : Keyword) → reserved (spelling k) ≡ Some k
 reserved_spelling End = refl

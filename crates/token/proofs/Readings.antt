@@ -1,13 +1,14 @@
 -- The tokens of a text against the rules by which it reads.
 use Rattle.std.proofs.Common.{◌≡◌, ℕ, zero, suc, ◌+◌, ◌≤◌, true, false, eqb, List, [], ◌∷◌, ◌++◌, length, take, drop, Some, None, Option, sym, refl, ap, ◌∙◌, subst, not-suc-le-zero, add-one, arith}
+use mathlib.Core.Logic.{inl, inr}
 use Rattle.std.proofs.lemmas.List.{length-take-le, length-drop, take_at, drop_at, take-append-drop}
-use Rattle.std.proofs.lemmas.Bool.{eqb-true, eqb-false, ne_eqb, and_left, and_right, and_from, and_parts, or_left, false≢true}
+use Rattle.std.proofs.lemmas.Bool.{cases_Bool, eqb-true, eqb-false, ne_eqb, and_left, and_right, and_from, and_parts, or_left, false≢true}
 use Rattle.std.proofs.lemmas.Bool.Decides.{nat_tests}
 use Rattle.token.specs.Tokens.{Token, name, number, keyword, sign, other, Placed, Keyword, End, Let, Go, To, Of, Read, Print, If, Then, Else, Sign, Semicolon, Colon, Becomes, Plus, Minus, Times, Over, Open, Close, Comma, Greater, Equal, Less}
 use Rattle.token.specs.Lexis.{blank, letter, digit, alphanumeric, comment_byte, equals, front, begins, spelling, characters, keywords, reserved, single_signs, sign_of, keyword_or_name, named, sign_or_other, lone, Piece, one, piece, placed, from, tokens_from}
 use Rattle.token.specs.Numbers.{every}
 use Rattle.token.specs.Reading.{spelled, Foreign, Proper, Whole, Reads, the_end, a_blank, a_comment, a_token, TokensExact}
-use Rattle.token.proofs.Pieces.{Way, holds, fails, way, from_skip, along_blank, along_comment}
+use Rattle.token.proofs.Pieces.{Way, from_skip, along_blank, along_comment}
 use Rattle.token.proofs.Fronts.{front_is, front_le, every_front, begins_front}
 use Rattle.token.proofs.Finds.{found, reserved_spelling, not_reserved, not_sign}
 
@@ -46,26 +47,26 @@ becomes_here b (c ∷ bs) is e f =
 
 -- a byte that is no blank and starts no comment starts a token
 pub here : (b : ℕ) (bs : List ℕ) → blank b ≡ false → eqb b 37 ≡ false → (t : Token) × (more : ℕ) × Here b bs t more
-here b bs e f = by (way (letter b)) (way (digit b)) (way (eqb b 58)) (way (begins equals bs))
+here b bs e f = by (cases_Bool (letter b)) (cases_Bool (digit b)) (cases_Bool (eqb b 58)) (cases_Bool (begins equals bs))
   where
     by : Way (letter b) → Way (digit b) → Way (eqb b 58) → Way (begins equals bs) → (t : Token) × (more : ℕ) × Here b bs t more
-    by (holds g) _ _ _ =
+    by (inl g) _ _ _ =
         let more = front alphanumeric bs in (
           _,
           more,
           name_here b bs more (reserved (b ∷ take more bs)) refl (rw (e, f, g)) (front_le alphanumeric bs) g (and_from (alphanumeric b) _ (letter_alphanumeric b g) (every_front alphanumeric bs)) (begins_front alphanumeric bs),
         )
-    by (fails g) (holds h) _ _ =
+    by (inr g) (inl h) _ _ =
         let more = front digit bs in (
           number (b ∷ take more bs),
           more,
           record { is = rw (e, f, g, h); room = front_le digit bs; bytes = refl; proper = (h, and_from (digit b) _ h (every_front digit bs)); whole = begins_front digit bs },
         )
-    by (fails g) (fails h) (holds i) (holds j) = (sign Becomes, 1, becomes_here b bs (rw (e, f, g, h, i, j)) i j)
-    by (fails g) (fails h) (holds i) (fails j) =
+    by (inr g) (inr h) (inl i) (inl j) = (sign Becomes, 1, becomes_here b bs (rw (e, f, g, h, i, j)) i j)
+    by (inr g) (inr h) (inl i) (inr j) =
         let z = and_right (eqb b 58) (begins equals bs) j in
         (_, 0, lone_here b bs (sign_of b) refl (rw (e, f, g, h, z)) e f g h (λ _. j))
-    by (fails g) (fails h) (fails i) _ =
+    by (inr g) (inr h) (inr i) _ =
         let z = and_left (eqb b 58) (begins equals bs) i in
         (_, 0, lone_here b bs (sign_of b) refl (rw (e, f, g, h, z)) e f g h (λ q. absurd (eqb-false b 58 i q)))
 
@@ -183,18 +184,18 @@ moved {at} {xs} {ys} {ss} {ts} p q r = subst (λ (l : List Placed). Reads at ys 
 from_reads : (n : ℕ) (text : List ℕ) → length text ≤ n → (at : ℕ) → Reads at text (from 0 at text)
 from_reads n [] low at = the_end at
 from_reads zero (b ∷ bs) low at = absurd (not-suc-le-zero low)
-from_reads (suc n) (b ∷ bs) low at = by (way (blank b)) (way (eqb b 37)) (from_reads n)
+from_reads (suc n) (b ∷ bs) low at = by (cases_Bool (blank b)) (cases_Bool (eqb b 37)) (from_reads n)
   where
     by : Way (blank b) → Way (eqb b 37) → ((text : List ℕ) → length text ≤ n → (at : ℕ) → Reads at text (from 0 at text)) → Reads at (b ∷ bs) (from 0 at (b ∷ bs))
-    by (holds e) _ more = moved refl (ap (λ n. from 0 n bs) (add-one at) ∙ sym (along_blank at b bs e)) (a_blank at b bs _ e (more bs (omega arith) (at + 1)))
-    by (fails e) (holds f) more =
+    by (inl e) _ more = moved refl (ap (λ n. from 0 n bs) (add-one at) ∙ sym (along_blank at b bs e)) (a_blank at b bs _ e (more bs (omega arith) (at + 1)))
+    by (inr e) (inl f) more =
         let k = front comment_byte bs in
         let room = front_le comment_byte bs in
         let size : at + 1 + length (take k bs) ≡ suc at + k = omega (arith, length-take-le k bs room) in
         moved (λ i. sym (eqb-true b 37 f) i ∷ take-append-drop k bs i)
         (ap (λ n. from 0 n (drop k bs)) size ∙ sym (from_skip k (suc at) bs) ∙ sym (along_comment at b bs e f))
         (a_comment at (take k bs) (drop k bs) _ (every_front comment_byte bs) (begins_front comment_byte bs) (more (drop k bs) (omega (arith, length-drop k bs)) (at + 1 + length (take k bs))))
-    by (fails e) (fails f) more =
+    by (inr e) (inr f) more =
         let p = here b bs e f in
         let t = p.0 in
         let k = p.1 in

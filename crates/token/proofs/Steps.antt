@@ -1,6 +1,6 @@
 -- One byte of a text, by its index.
 use Rattle.std.proofs.Common.{◌≡◌, ℕ, suc, ◌+◌, ◌-◌, ◌<◌, ◌≤◌, true, false, List, ◌∷◌, length, get_or, take, drop, Some, Option, sym, refl, ap, ◌∙◌, subst, add-one, arith}
-use Rattle.std.proofs.lemmas.List.{drop_more, drop_all, drop-drop, length-drop, length-take-le}
+use Rattle.std.proofs.lemmas.List.{drop_more, drop_all, drop-drop, get_or-drop, length-drop, length-take-le, take_all}
 use Rattle.token.specs.declared.lexer.State.{State}
 use Rattle.token.specs.declared.lexer.State.TheVariants.{E1}
 use Rattle.token.specs.Lexis.{Piece, one, piece, placed, from}
@@ -10,6 +10,23 @@ use Rattle.token.specs.Views.{Found}
 use Rattle.token.specs.Transducer.{moves, inside, width, final, emitted}
 use Rattle.token.proofs.Pieces.{from_skip, token_here, along, along_end, idle, Starts, starts, goes, stays, stays_end}
 use Rattle.token.proofs.Readings.{here}
+
+-- a loop over the bytes of ys from a on, when it has gone over i of them: the next one is that at j, or there is none
+module _ (xs ys : List ℕ) (a i j : ℕ) (same : ys ≡ xs) (at : j ≡ a + i) where
+  left : take (length xs - a) (drop a xs) ≡ drop a ys
+  left = take_all (length xs - a) (drop a xs) (simp length-drop (omega arith)) ∙ ap (drop a) (sym same)
+
+  size : length (take (length xs - a) (drop a xs)) ≡ length ys - a
+  size = ap length left ∙ length-drop a ys
+
+  pub some_left : i < length (take (length xs - a) (drop a xs)) → j < length ys
+  some_left low = omega (arith, size, at, low)
+
+  pub none_left : length (take (length xs - a) (drop a xs)) ≤ i → length ys ≤ j
+  none_left high = omega (arith, size, at, high)
+
+  pub next_byte : get_or (take (length xs - a) (drop a xs)) i 0 ≡ get_or ys j 0
+  next_byte = ap (λ l. get_or l i 0) left ∙ get_or-drop a ys i 0 ∙ ap (λ k. get_or ys k 0) (sym at)
 
 -- t is the state that the byte at i leads to from s
 module _ (xs : List ℕ) (i : ℕ) (s t : State) (low : i < length xs) (moved : t ≡ moves s (get_or xs i 0)) where

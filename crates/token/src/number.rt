@@ -12,10 +12,7 @@ pub fn number_word<N: Arithmetic>(digits: &[u8]) -> Option<i32>
 {
     let mut word = 0;
     for b in digits {
-        match digit_value(*b) {
-            Some(d) => word = append::<N>(word, d),
-            None => return None,
-        }
+        word = append::<N>(word, digit_value(*b)?);
     }
     Some(word)
 }

@@ -2,7 +2,7 @@
 use crate::kinds::{Keyword, Sign};
 
 // A token. A name and a number are parts of the text.
-#[derive(Clone, Copy)]
+#[derive(Clone, Copy, PartialEq, Eq, Debug)]
 pub enum Token<'t> {
     Name(&'t [u8]),
     Number(&'t [u8]),
@@ -15,7 +15,7 @@ pub enum Token<'t> {
 }
 
 // A token with the offset of its first byte; the end's is the text's length.
-#[derive(Clone, Copy)]
+#[derive(Clone, Copy, PartialEq, Eq, Debug)]
 pub struct Lexeme<'t> {
     pub token: Token<'t>,
     pub offset: usize,

@@ -16,11 +16,8 @@ pub fn count(text: &[u8]) -> usize
 {
     let mut lexer = Lexer::new(text);
     let mut n = 0;
-    loop {
-        let lexeme = lexer.next();
-        match lexeme.token {
-            Token::End => return n,
-            _ => n += 1,
-        }
+    while !matches!(lexer.next().token, Token::End) {
+        n += 1;
     }
+    n
 }

@@ -53,9 +53,8 @@ impl<'t> Lexer<'t> {
         ensures begun { MatchBool result (Begun self.new.text.now self.new.at self.new.state) ((self.new.at ≡ length self.new.text.now) × (rest_of self.new ≡ [])) }
     {
         self.state = State::E1;
-        while self.at < self.text.len() {
-            let next = self.text[self.at];
-            self.step(next);
+        for next in &self.text[self.at..] {
+            self.step(*next);
             if self.state.inside() {
                 return true;
             }
@@ -71,10 +70,9 @@ impl<'t> Lexer<'t> {
         ensures to { self.new.at ≡ self.old.at + width self.old.state (drop self.old.at self.old.text.now) }
         ensures kind { result ≡ final self.old.state (drop self.old.at self.old.text.now) }
     {
-        while self.at < self.text.len() {
+        for next in &self.text[self.at..] {
             let kind = self.state;
-            let next = self.text[self.at];
-            self.step(next);
+            self.step(*next);
             if !self.state.inside() {
                 return kind;
             }
@@ -118,10 +116,7 @@ impl State {
     fn inside(self) -> bool
         ensures { result ≡ inside self }
     {
-        match self {
-            State::E1 | State::E6 => false,
-            State::E2 | State::E3 | State::E4 | State::E5 | State::E7 => true,
-        }
+        !matches!(self, State::E1 | State::E6)
     }
 }
 

@@ -1,73 +1,44 @@
-use Rattle.std.proofs.Common.{ℕ, sym, refl, ap, ◌∙◌, subst, arith}
-use mathlib.Core.Option as maybe
-use Rattle.fault.specs.Refusals.{numbered}
-use Rattle.symbols.specs.Entries.{meant}
-use Rattle.symbols.specs.Table.{Taken, mention}
-use Rattle.symbols.proofs.Noting.{number_of, name_role, known_number_is, room_number_is, old_taken, placed_taken, new_taken, keeps_same, keeps_name, keeps_placed, name_size}
+use Rattle.std.proofs.Common.{◌≡◌, ℕ, Err, rules, sym, ◌∙◌, subst, ap}
+use Rattle.std.specs.Option.{option_map}
+use Rattle.limits.specs.Uses.{is_definition}
+use Rattle.symbols.specs.Entries.{Role, meant}
+use Rattle.symbols.specs.Table.{Taken, mention, fault_at, Gives, first_address, AddsName, PlacesLabel}
+use Rattle.symbols.proofs.Noting.{refuses, found_none, name_role, first_is, no_definition, known_number_is, room_number_is, old_taken, placed_taken, new_taken, keeps_name}
 use Rattle.symbols.proofs.table.Table.note_name.Goals as goal
 
-pub returns-in-Some-known_refusal : goal.returns-in-Some-known_refusal
-returns-in-Some-known_refusal c =
-    let f = c.in-Some.ensures in
-    let x = c.fault_at-in-Some-known_refusal.ensures in
-    record {
-      kept = keeps_same c.args.self.now;
-      answers = refl;
-      told = λ w seen s h z snd. (
-        known_number_is w c.args.self.now seen h (meant c.args.role) s c.args.place c.args.length c.args.address (name_role c.args.role) z snd (sym c.if-is_long.ensures) c.in-Some.index f.0 f.1
-            ∙ ap number_of (sym c.in-Some-known_refusal.ensures) ∙ ap (λ y. maybe.some (numbered y)) (sym x.0),
-        x.1,
-      );
-    }
+pub returns-in_err-found_at-in-Some-clause-told : goal.returns-in_err-found_at-in-Some-clause-told
+returns-in_err-found_at-in-Some-clause-told c = λ w seen s address h z given snd.
+    let e : c.from_residual.result ≡ Err c.in_err-found_at-in-Some.field-0.0 = search rules in
+    refuses w c.args.self.now seen (mention (meant c.args.role) s c.args.spelling.place address) _ _ _
+    (known_number_is w c.args.self.now seen h (meant c.args.role) s c.args.spelling address (name_role c.args.role) z snd (sym c.if-is_long.ensures) c.in-Some.index c.in-Some.ensures.0 c.in-Some.ensures.1)
+    (c.in_err-found_at-in-Some.ensures ∙ ap (option_map (fault_at c.args.spelling.place)) c.check_known.ensures) e
 
-pub returns-then-defines : goal.returns-then-defines
-returns-then-defines c =
-    let f = c.in-Some.ensures in
-    let a = c.args.self.now in
-    let b = c.place_label.new.self in
-    let x = c.place_label.ensures in
-    record {
-      kept = keeps_placed a b c.in-Some.index c.args.address f.0 x;
-      answers = omega (arith, f.0, x.celled_are, x.labels_are);
-      told = λ w seen s h z snd.
-          placed_taken w a seen h (meant c.args.role) s c.args.place c.args.length c.args.address (name_role c.args.role) z snd (sym c.if-is_long.ensures) c.in-Some.index f.0 f.1
-          (sym c.in-None-known_refusal.ensures) b (sym c.if-defines.ensures) x;
-    }
+pub returns-in_err-found_at-in-None-clause-told : goal.returns-in_err-found_at-in-None-clause-told
+returns-in_err-found_at-in-None-clause-told c = λ w seen s address h z given snd.
+    let e : c.from_residual-in_err-found_at-in-None.result ≡ Err c.in_err-found_at-in-None.field-0.0 = search rules in
+    refuses w c.args.self.now seen (mention (meant c.args.role) s c.args.spelling.place address) _ _ _
+    (room_number_is w c.args.self.now seen h (meant c.args.role) s c.args.spelling address (name_role c.args.role) z snd (sym c.if-is_long.ensures) c.in-None.ensures)
+    (c.in_err-found_at-in-None.ensures ∙ ap (option_map (fault_at c.args.spelling.place)) c.check_room.ensures) e
 
-pub returns-else-defines : goal.returns-else-defines
-returns-else-defines c =
-    let f = c.in-Some.ensures in
-    let a = c.args.self.now in
-    record {
-      kept = keeps_same a;
-      answers = f.0;
-      told = λ w seen s h z snd.
-          old_taken w a seen h (meant c.args.role) s c.args.place c.args.length c.args.address (name_role c.args.role) z snd (sym c.if-is_long.ensures) c.in-Some.index f.0 f.1
-          (sym c.in-None-known_refusal.ensures) (sym c.if-defines.ensures);
-    }
+pub returns-in-Definition-clause-told : goal.returns-in-Definition-clause-told
+returns-in-Definition-clause-told c = λ w seen s address h z given snd.
+    let role = c.in-Definition.is in
+    let same : c.in-Definition.address ≡ address = subst (λ (r : Role). Gives r address) role given in
+    placed_taken w c.args.self.now seen h (meant c.args.role) s c.args.spelling address (name_role c.args.role) z snd (sym c.if-is_long.ensures) c.in-Some.index c.in-Some.ensures.0 c.in-Some.ensures.1
+    (sym c.check_known.ensures ∙ found_none c.args.spelling.place _ c.in_ok-found_at-in-Some.ensures) c.place_label.new.self (ap (λ (r : Role). is_definition (meant r)) role)
+    (subst (λ (n : ℕ). PlacesLabel c.args.self.now c.place_label.new.self c.in-Some.index n) same c.place_label.ensures)
 
-pub returns-in-Some-room_refusal : goal.returns-in-Some-room_refusal
-returns-in-Some-room_refusal c =
-    let x = c.fault_at-in-Some-room_refusal.ensures in
-    record {
-      kept = keeps_same c.args.self.now;
-      answers = refl;
-      told = λ w seen s h z snd. (
-        room_number_is w c.args.self.now seen h (meant c.args.role) s c.args.place c.args.length c.args.address (name_role c.args.role) z snd (sym c.if-is_long.ensures) c.in-None.ensures
-            ∙ ap number_of (sym c.in-Some-room_refusal.ensures) ∙ ap (λ y. maybe.some (numbered y)) (sym x.0),
-        x.1,
-      );
-    }
+pub returns-in_default-clause-told : goal.returns-in_default-clause-told
+returns-in_default-clause-told c = λ w seen s address h z given snd.
+    old_taken w c.args.self.now seen h (meant c.args.role) s c.args.spelling address (name_role c.args.role) z snd (sym c.if-is_long.ensures) c.in-Some.index c.in-Some.ensures.0 c.in-Some.ensures.1
+    (sym c.check_known.ensures ∙ found_none c.args.spelling.place _ c.in_ok-found_at-in-Some.ensures) (no_definition c.args.role c.in_default.not-Definition)
 
-pub returns-else-is_short : goal.returns-else-is_short
-returns-else-is_short c =
-    let a = c.args.self.now in
-    let b = c.add_name.new.self in
-    let x = c.add_name.ensures.after in
-    record {
-      kept = keeps_name a b (meant c.args.role) c.args.place c.args.length c.args.address x;
-      answers = omega (arith, c.add_name.ensures.index, name_size a b (meant c.args.role) c.args.place c.args.length c.args.address x);
-      told = λ w seen s h z snd. subst (λ (i : ℕ). Taken w b seen (mention (meant c.args.role) s c.args.place c.args.address) i) (sym c.add_name.ensures.index)
-          (new_taken w a seen h (meant c.args.role) s c.args.place c.args.length c.args.address (name_role c.args.role) z snd (sym c.if-is_long.ensures) c.in-None.ensures
-          (sym c.in-None-room_refusal.ensures) b x);
-    }
+pub returns-else-is_short-clause-kept : goal.returns-else-is_short-clause-kept
+returns-else-is_short-clause-kept c = keeps_name c.args.self.now c.add_name.new.self (meant c.args.role) c.args.spelling (first_address c.args.role) c.add_name.ensures.after
+
+pub returns-else-is_short-clause-told : goal.returns-else-is_short-clause-told
+returns-else-is_short-clause-told c = λ w seen s address h z given snd.
+    subst (λ (i : ℕ). Taken w c.add_name.new.self seen (mention (meant c.args.role) s c.args.spelling.place address) i) (sym c.add_name.ensures.index)
+    (new_taken w c.args.self.now seen h (meant c.args.role) s c.args.spelling address (name_role c.args.role) z snd (sym c.if-is_long.ensures) c.in-None.ensures
+    (sym c.check_room.ensures ∙ found_none c.args.spelling.place _ c.in_ok-found_at-in-None.ensures) c.add_name.new.self
+    (subst (λ (n : ℕ). AddsName c.args.self.now c.add_name.new.self (meant c.args.role) c.args.spelling n) (first_is c.args.role address given) c.add_name.ensures.after))

@@ -1,21 +1,20 @@
-use Rattle.std.proofs.Common.{sym, ap, ◌∙◌, w32, SFits, rules}
+use Rattle.std.proofs.Common.{take, drop, sym, ap, ◌∙◌, w32, SFits, rules}
 use Rattle.std.proofs.lemmas.Int.{to_z-of_z}
 use Rattle.limits.proofs.Keys.{clash}
 use Rattle.token.specs.Lexis.{digit}
 use Rattle.token.specs.Numbers.{word, every}
-use Rattle.symbols.specs.Entries.{part}
 use Rattle.symbols.proofs.Noting.{word_of}
 use Rattle.symbols.proofs.table.Table.note_number.Goals as goal
 
 pub returns-in-Some : goal.returns-in-Some
 returns-in-Some g c =
-    let x = word_of g.N.Arithmetic.words c.spelled.result.now c.in-Some.word c.in-Some.ensures in
+    let x = word_of g.N.Arithmetic.words c.bytes.result.now c.in-Some.word c.in-Some.ensures in
     let f : SFits w32 c.in-Some.word = search rules in
     let e = c.note_word.ensures in
     record {
       kept = e.kept;
       answers = e.answers;
       told = λ seen s address h z snd d. e.told g.N.Arithmetic.words seen s address h z snd
-          (ap (word g.N.Arithmetic.words) (sym snd.bytes ∙ ap (part c.args.self.now.text.now c.args.place) z ∙ sym c.spelled.ensures) ∙ x.1 ∙ sym (to_z-of_z w32 c.in-Some.word f));
-      other = λ d. absurd (clash (ap (every digit) (sym c.spelled.ensures) ∙ x.0) d);
+          (ap (word g.N.Arithmetic.words) (sym snd.bytes ∙ ap (λ n. take n (drop c.args.spelling.place c.args.self.now.text.now)) z ∙ sym c.bytes.ensures) ∙ x.1 ∙ sym (to_z-of_z w32 c.in-Some.word f));
+      other = λ d. absurd (clash (ap (every digit) (sym c.bytes.ensures) ∙ x.0) d);
     }

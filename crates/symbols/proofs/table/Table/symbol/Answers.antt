@@ -1,15 +1,10 @@
-use Rattle.std.proofs.Common.{refl, arith}
-use Rattle.symbols.proofs.Reading.{index_low, describes}
+use Rattle.std.proofs.Common.{arith}
+use Rattle.std.proofs.lemmas.Grind.{common_steps}
+use Rattle.symbols.specs.Table.{EntryRead}
+use Rattle.symbols.proofs.Reading.{described}
 use Rattle.symbols.proofs.table.Table.symbol.Goals as goal
 
-pub returns-then-index-len : goal.returns-then-index-len
-returns-then-index-len c = record {
-  entry = (omega (arith, c.len.ensures), refl);
-  describes = λ w seen u h i e. describes w c.args.self.now seen h u i c.args.index e;
-}
-
 pub returns : goal.returns
-returns c = record {
-  entry = omega (arith, c.len.ensures);
-  describes = λ w seen u h i e. (let l = index_low w c.args.self.now seen h u i c.args.index e in omega (arith, c.len.ensures));
-}
+returns c =
+    let read : EntryRead c.args.self.now c.args.index c.copied.result = grind (arith, common_steps) in
+    record { entry = read; describes = λ w seen u h i e. described w c.args.self.now seen h u i c.args.index e c.copied.result read }

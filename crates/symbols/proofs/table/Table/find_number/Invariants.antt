@@ -1,7 +1,0 @@
-use Rattle.std.proofs.Common.{◌≡◌, ℕ, ◌<◌, false, get_or}
-use Rattle.symbols.specs.Entries.{blank}
-use Rattle.symbols.specs.Table.{is_valued}
-use Rattle.symbols.proofs.table.Table.find_number.Given as goal
-
-abbrev pub invariant-loop-i : goal.invariant-loop-i
-invariant-loop-i l = (k : ℕ) → k < l.i → is_valued l.self.cells.now l.word (get_or l.self.symbols.now k blank) ≡ false
