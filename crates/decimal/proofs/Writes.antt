@@ -48,6 +48,9 @@ turn out start (suc p) n lo hi =
     ap (λ f. f ++ (last_digits (p - start) (n / 10) ++ drop p new)) (sym front) ∙
     ap (λ q. take start (set out q v) ++ (last_digits (q - start) (n / 10) ++ drop q (set out q v))) (sym e)
 
+-- what the writing of digits keeps and leaves
+pub ruleset digit_steps = (all_to_write, none_to_write, turn)
+
 -- a number's sign tells how it is written
 signed_below : (z : ℤ) → lt_z z (pos 0) ≡ true → signed z ≡ 45 ∷ decimal (nat_abs z)
 signed_below (pos n) h = absurd (grind (arith, nat_tests))
@@ -94,3 +97,5 @@ written_from out start width m z t a f w h =
     let s = signed_from z t in
     let d : last_digits width m ≡ decimal (nat_abs z) = all_last width m f (w ∙ ap length s ∙ ap (λ k. length (decimal k)) (sym a)) ∙ ap decimal a in
     fits_written out (signed z) start (omega (arith, w)) ∙ ap (overwritten out start) (s ∙ sym d)
+
+pub ruleset written_by_sign = (written_below, written_from)

@@ -23,7 +23,7 @@ pub fn width(n: i32) -> usize
 }
 
 // Writes the last `count` digits of `n` from `start` on.
-#[tactic(auto, using(crate::proofs::Writes::all_to_write, crate::proofs::Writes::none_to_write, crate::proofs::Writes::turn))]
+#[tactic(auto, using(crate::proofs::Writes::digit_steps))]
 fn write_digits(out: &mut [u8], start: usize, count: usize, mut n: u32)
     requires { start + count ≤ length out.old }
     ensures { out.new ≡ overwritten out.old start (last_digits count n) }
@@ -39,7 +39,7 @@ fn write_digits(out: &mut [u8], start: usize, count: usize, mut n: u32)
 pub struct NoRoom;
 
 // Writes a number from `start` on, where it fits; else nothing changes.
-#[tactic(auto, using(crate::proofs::Writes::written_below, crate::proofs::Writes::written_from))]
+#[tactic(auto, using(crate::proofs::Writes::written_by_sign))]
 pub fn write(out: &mut [u8], start: usize, n: i32) -> Result<(), NoRoom>
     ensures fits { is_ok result ≡ nat_le (start + length (signed n)) (length out.old) }
     ensures after { out.new ≡ written out.old start (signed n) }

@@ -92,6 +92,9 @@ module _ (xs : List ℕ) (i n : ℕ) (w : Within xs i n) where
   pub short_here : n < 1000000000000000000
   short_here = let s : n < 10 ^ w.count = w.small in let p : 10 ^ w.count ≤ 10 ^ 18 = pow-le-pow_right {n = 10} (omega arith) {i = w.count} {j = 18} w.few in omega (arith, s, p)
 
+-- what the reading of digits keeps and answers
+pub ruleset digit_steps = (within_first, in_line, bounds_here, within_next, lawful_end, numbers_end)
+
 -- a slice from a place on holds all that follows
 rest : (xs : List ℕ) (i : ℕ) → take (length xs - i) (drop i xs) ≡ drop i xs
 rest xs i = take_all (length xs - i) (drop i xs) (omega (arith, length-drop i xs))

@@ -7,7 +7,7 @@ use super::check;
 use super::reader::Reader;
 
 // The number that the digits at the beginning of these lines write, and how many bytes they take with the byte 10 behind them.
-#[tactic(auto, using(crate::proofs::Steps::within_first, crate::proofs::Steps::in_line, crate::proofs::Steps::bounds_here, crate::proofs::Steps::within_next, crate::proofs::Steps::lawful_end, crate::proofs::Steps::numbers_end))]
+#[tactic(auto, using(crate::proofs::Steps::digit_steps))]
 fn read_digits(lines: &[u8]) -> (u64, usize)
     requires { lawful_from (Digits 0) lines.now ≡ true }
     ensures short { result.0 < 1000000000000000000 }

@@ -2,30 +2,26 @@
 // A case is `case NAME`, `text N` and N bytes, `check M` and M bytes: `lines COUNT` or the fault.
 #![tactic(auto)]
 
-use anyhow::anyhow;
+ghost use Rattle.std.specs.Prelude.{◌<◌, length, IfSome};
+
+use anyhow::Context;
 use std::alloc::{AllocError, Global};
 use std::io::Read;
 use vectors::{split_line, split_payload};
 
 // The length that a line announces, as `text 12` does after the word `text`.
 fn announced(line: &[u8], word: &[u8]) -> Option<usize> {
-    if line.len() <= word.len() || &line[0..word.len()] != word {
-        return None;
-    }
-    let mut length = 0usize;
-    for byte in &line[word.len() + 1..line.len()] {
-        if *byte < b'0' || *byte > b'9' {
-            return None;
-        }
-        length = length
-            .checked_mul(10)?
-            .checked_add((*byte - b'0') as usize)?;
-    }
-    Some(length)
+    let (_space, digits) = line.strip_prefix(word)?.split_first()?;
+    digits.iter().try_fold(0usize, |length, byte| {
+        let digit = char::from(*byte).to_digit(10)?;
+        length.checked_mul(10)?.checked_add(digit as usize)
+    })
 }
 
-// A payload that a line announces, and what follows it.
-fn field<'a>(text: &'a [u8], word: &[u8]) -> Option<(&'a [u8], &'a [u8])> {
+// A payload that a line announces, and what follows it, which is shorter than the text.
+fn field<'a>(text: &'a [u8], word: &[u8]) -> Option<(&'a [u8], &'a [u8])>
+    ensures { IfSome result (λ parts. length parts.1.now < length text.now) }
+{
     let (line, rest) = split_line(text)?;
     let length = announced(line, word)?;
     split_payload(rest, length)
@@ -46,16 +42,9 @@ fn main(rt: HostRuntime) -> anyhow::Result<()> {
     let mut rest = file.as_slice();
     let mut cases = 0usize;
     let mut differ = 0usize;
-    for _ in 0..file.len() {
-        let Some((_name, after)) = split_line(rest) else {
-            break;
-        };
-        let Some((note, tail)) = field(after, b"text") else {
-            return Err(anyhow!("a case without its text"));
-        };
-        let Some((wanted, next)) = field(tail, b"check") else {
-            return Err(anyhow!("a case without its answer"));
-        };
+    while let Some((_name, after)) = split_line(rest) {
+        let (note, tail) = field(after, b"text").context("a case without its text")?;
+        let (wanted, next) = field(tail, b"check").context("a case without its answer")?;
         if answer(heap, note)?.as_bytes() != wanted {
             differ = differ.saturating_add(1);
         }
