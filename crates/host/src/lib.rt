@@ -56,7 +56,7 @@ pub trait Host {
     // A waiting line has at most 18 digits.
     ghost short: { (h : Self) → ShortLines (meaning h).lines };
 
-    // No call at all keeps the host, and calls in a row keep it where each does.
+    // `keeps` holds where no call is made, and of calls in a row.
     ghost still: { (a : Self) → keeps a a };
 
     ghost along: { (a b c : Self) → keeps a b → keeps b c → keeps a c };

@@ -1,7 +1,6 @@
 // A tray as a host.
-ghost use Rattle.std.specs.Prelude.{◌≡◌, ℕ, ◌+◌, ◌-◌, ◌<◌, ◌≤◌, [], length, ℤ, pos, is_ok};
-ghost use Rattle.host.specs.Meaning.{Meaning, meaning, short, fits, marked};
-ghost use Rattle.host.specs.declared.mark.Mark.{Mark as Printed};
+ghost use Rattle.std.specs.Prelude.{◌≡◌, [], length, is_ok};
+ghost use Rattle.host.specs.Meaning.{meaning, short, fits, marked};
 ghost use Rattle.host.specs.Trays.{up_to_long, unit_weight, tray_meaning, TrayKeeps, tray_still, tray_along, tray_light, tray_short};
 
 use super::mark::Mark;

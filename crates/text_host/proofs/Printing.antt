@@ -1,5 +1,5 @@
 -- One mark more on the output: facts on plain lists.
-use Rattle.std.proofs.Common.{rules, ◌≡◌, ℕ, suc, ◌+◌, ◌-◌, ◌^◌, ◌<◌, ◌≤◌, min, true, false, cond, eqb, List, [], ◌∷◌, ◌++◌, length, take, drop, set, ℤ, pos, negsuc, neg_ℤ, decimal, sym, refl, ap, ◌∙◌, subst, arith, length-append, length-drop, length-set, length-take-le, drop-drop, take-add, drop_at, le-leb}
+use Rattle.std.proofs.Common.{rules, ◌≡◌, ℕ, suc, ◌+◌, ◌-◌, ◌^◌, ◌<◌, ◌≤◌, min, true, false, eqb, leb, List, [], ◌∷◌, ◌++◌, length, take, drop, set, ℤ, pos, negsuc, neg_ℤ, decimal, sym, refl, ap, ◌∙◌, subst, arith, length-append, length-drop, length-set, length-take-le, drop-drop, take-add, drop_at, le-leb}
 use Rattle.std.proofs.lemmas.List.{take_more_set, drop-take, flat_map_more}
 use Rattle.std.proofs.lemmas.List.Sums.{sum_by-cons, sum_by_push}
 use Rattle.std.specs.Prelude.{sum}
@@ -29,8 +29,7 @@ mark_digits (b ∷ ds) d h =
     let p = (and_parts (digit b) (all_digits ds) d).0 in
     let e : eqb b 10 ≡ false = grind (arith, nat_tests) in
     let m : eqb b 45 ≡ false = grind (arith, nat_tests) in
-    ap (λ c. cond c LineEnd (cond (eqb b 45) (Number (neg_ℤ (pos (number_of ds)))) (Number (pos (number_of (b ∷ ds)))))) e ∙
-    ap (λ c. cond c (Number (neg_ℤ (pos (number_of ds)))) (Number (pos (number_of (b ∷ ds))))) m
+    simp (e, m)
 
 -- a mark is read back from its bytes
 pub mark_back : (m : Mark) → Printable m → mark_of (mark_bytes m) ≡ m
@@ -42,8 +41,7 @@ mark_back LineEnd h = refl
 
 marks_push : (ns : List ℕ) (n : ℕ) (out : List ℕ) → marks_of (ns ++ (n ∷ [])) out ≡ marks_of ns out ++ (mark_of (take n (drop (sum ns) out)) ∷ [])
 marks_push [] n out = refl
-marks_push (k ∷ ns) n out =
-    ap (λ r. mark_of (take k out) ∷ r) (marks_push ns n (drop k out) ∙ ap (λ d. marks_of ns (drop k out) ++ (mark_of (take n d) ∷ [])) (drop-drop (sum ns) k out ∙ ap (λ i. drop i out) (sym (sum_by-cons (λ i. i) k ns))))
+marks_push (k ∷ ns) n out = simp (marks_push ns n (drop k out), drop-drop, sum_by-cons)
 
 -- the marks stand in the first bytes alone
 drop_agrees : (k t : ℕ) (xs ys : List ℕ) → take (k + t) xs ≡ take (k + t) ys → take t (drop k xs) ≡ take t (drop k ys)
@@ -55,7 +53,7 @@ marks_same (k ∷ ns) xs ys e =
     let c = subst (λ i. take i xs ≡ take i ys) (sum_by-cons (λ i. i) k ns) e in
     let h = ap mark_of (take_earlier k (k + sum ns) xs ys (omega arith) c) in
     let r = marks_same ns (drop k xs) (drop k ys) (drop_agrees k (sum ns) xs ys c) in
-    ap (λ m. m ∷ marks_of ns (drop k xs)) h ∙ ap (λ l. mark_of (take k ys) ∷ l) r
+    simp (h, r)
 
 -- bytes written behind the first w
 pub over_front : (out : List ℕ) (w : ℕ) (bs : List ℕ) → w ≤ length out → take w (overwritten out w bs) ≡ take w out
@@ -126,11 +124,7 @@ module _ (out lens : List ℕ) (w k : ℕ) (m : Mark) (h : Holds out w lens k) (
       lens_front = take_more_set lens k n low
 
       more_marks : marks_of (take (k + 1) (set lens k n)) new ≡ marks_of (take k lens) out ++ (m ∷ [])
-      more_marks =
-          ap (λ l. marks_of l new) lens_front ∙ marks_push (take k lens) n new ∙
-          ap (λ l. l ++ (mark_of (take n (drop (sum (take k lens)) new)) ∷ [])) same_marks ∙
-          ap (λ i. marks_of (take k lens) out ++ (mark_of (take n (drop i new)) ∷ [])) h.whole ∙
-          ap (λ b. marks_of (take k lens) out ++ (b ∷ [])) (ap mark_of behind ∙ mark_back m can)
+      more_marks = simp (lens_front, marks_push, same_marks, h.whole, behind, mark_back m can)
 
       pub after : Holds new w' (set lens k n) (k + 1)
       after =
@@ -138,9 +132,7 @@ module _ (out lens : List ℕ) (w k : ℕ) (m : Mark) (h : Holds out w lens k) (
             room = let r = h.room in let l = length-set lens k n in omega (arith, r, size, l, q, q', some, fit);
             fewer = let f = h.fewer in omega (arith, f, q, q', some);
             whole = ap sum lens_front ∙ sum_by_push (λ i. i) (take k lens) n ∙ ap (λ i. i + n) h.whole ∙ sym q';
-            text =
-                ap (λ i. take i new) q' ∙ take-add w n new ∙ ap (λ l. l ++ take n (drop w new)) (front ∙ h.text) ∙ ap (λ l. rendered (marks_of (take k lens) out) ++ l) behind ∙
-                flat_map_more mark_bytes [] (marks_of (take k lens) out) m ∙ ap rendered (sym more_marks);
+            text = ap (λ i. take i new) q' ∙ take-add w n new ∙ simp (front, h.text, behind, more_marks) (flat_map_more mark_bytes [] (marks_of (take k lens) out) m);
           }
 
       pub meant : (ls : List ℤ) →
@@ -150,7 +142,5 @@ module _ (out lens : List ℕ) (w k : ℕ) (m : Mark) (h : Holds out w lens k) (
           let grown = length-set lens k n in
           let old : ℕ = min (length out) (length lens) - w in
           let paper : min (length new) (length (set lens k n)) - w' ≡ old - byte_weight m = omega (arith, size, grown, q, q') in
-          ap (λ p. meaning ls (marks_of (take (k + 1) (set lens k n)) new) p) paper ∙
-          ap (λ l. meaning ls l (old - byte_weight m)) more_marks ∙
-          ap (λ b. cond b (meaning ls (marks_of (take k lens) out ++ (m ∷ [])) (old - byte_weight m)) (meaning ls (marks_of (take k lens) out) old))
-          (sym (le-leb (byte_weight m) old fit))
+          let room : leb (byte_weight m) old ≡ true = le-leb (byte_weight m) old fit in
+          simp (paper, more_marks, room)

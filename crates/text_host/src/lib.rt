@@ -1,9 +1,9 @@
 // The text host: input lines as text, output as plain decimals. It knows a host by the trait alone.
 #![tactic(auto)]
 
-ghost use Rattle.std.specs.Prelude.{◌≡◌, ℕ, ◌+◌, ◌-◌, ◌<◌, ◌≤◌, min, [], length, ℤ, pos, is_ok};
+ghost use Rattle.std.specs.Prelude.{◌≡◌, ◌+◌, ◌≤◌, min, [], length, is_ok};
 ghost use Rattle.decimal.specs.Digits.{overwritten};
-ghost use Rattle.host.specs.Meaning.{Meaning, meaning, Printable, fits, marked};
+ghost use Rattle.host.specs.Meaning.{meaning, Printable, fits, marked};
 ghost use Rattle.lines.specs.Reading.{lines_of};
 ghost use Rattle.text_host.specs.Rendering.{byte_weight, rendered, mark_bytes};
 ghost use Rattle.text_host.specs.Texts.{text_meaning, text_short, TextKeeps, text_still, text_along, text_light};

@@ -7,14 +7,8 @@ use Rattle.totals.specs.Running.{as_paper_goes}
 use Rattle.totals.specs.Lines.{line_fits, with_line}
 
 module _ (weight : Mark → ℕ) (z : ℤ) (h : Meaning) where
-  wn : ℕ
-  wn = weight (Number z)
-
-  we : ℕ
-  we = weight LineEnd
-
   -- the three ways: both are printed, the number alone, nothing
-  pub data Way : Type 0 where
+  data Way : Type 0 where
     both : leb (weight (Number z)) h.paper ≡ true → leb (weight LineEnd) (h.paper - weight (Number z)) ≡ true → Way
     one : leb (weight (Number z)) h.paper ≡ true → leb (weight LineEnd) (h.paper - weight (Number z)) ≡ false → Way
     none : leb (weight (Number z)) h.paper ≡ false → Way
@@ -24,7 +18,7 @@ module _ (weight : Mark → ℕ) (z : ℤ) (h : Meaning) where
   by true false p q = one p q
   by false c p q = none p
 
-  pub way : Way
+  way : Way
   way = by (leb (weight (Number z)) h.paper) (leb (weight LineEnd) (h.paper - weight (Number z))) refl refl
 
   module _ (ms : List Mark) where

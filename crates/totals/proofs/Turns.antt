@@ -51,20 +51,16 @@ module _ (w : Words) (weight : Mark → ℕ) (most : ℕ) (old : Meaning) (i : �
     to_come = running w (plus w t z) (take (most - (i + 1)) (drop (i + 1) old.lines))
 
     unrolled : running w t (take (most - i) (drop i old.lines)) ≡ Number (plus w t z) ∷ LineEnd ∷ running w (plus w t z) (take (most - (i + 1)) (drop (i + 1) old.lines))
-    unrolled =
-        let k : most - i ≡ suc (most - (i + 1)) = omega (arith, few) in
-        ap (λ l. running w t (take (most - i) l)) at.now ∙ ap (λ n. running w t (take n (z ∷ drop (i + 1) old.lines))) k
+    unrolled = let k : most - i ≡ suc (most - (i + 1)) = omega (arith, few) in simp (at.now, k)
 
     gone_on : rest new.lines ≡ drop (i + 1) old.lines
     gone_on = ap rest (s.gone ∙ at.now)
 
     total_on : plus w t z ≡ total_of w (pos 0) (take (i + 1) old.lines)
-    total_on = ap (λ u. plus w u z) s.total ∙ sym (fold_push (plus w) (pos 0) (take i old.lines) z) ∙ ap (total_of w (pos 0)) (sym at.front)
+    total_on = simp (at.front, fold_push) (ap (λ u. plus w u z) s.total)
 
     marks_on : running w (pos 0) (take (i + 1) old.lines) ≡ running w (pos 0) (take i old.lines) ++ (Number (plus w t z) ∷ LineEnd ∷ [])
-    marks_on =
-        ap (running w (pos 0)) at.front ∙ running_append w (pos 0) (take i old.lines) (z ∷ []) ∙
-        ap (λ u. running w (pos 0) (take i old.lines) ++ (Number (plus w u z) ∷ LineEnd ∷ [])) (sym s.total)
+    marks_on = simp (at.front, running_append, s.total)
 
     goes_on : as_paper_goes weight old.paper (running w (pos 0) (take most old.lines))
         ≡ running w (pos 0) (take i old.lines) ++ as_paper_goes weight new.paper (Number (plus w t z) ∷ LineEnd ∷ running w (plus w t z) (take (most - (i + 1)) (drop (i + 1) old.lines)))
@@ -79,22 +75,14 @@ module _ (w : Words) (weight : Mark → ℕ) (most : ℕ) (old : Meaning) (i : �
           inside = let l = at.low in omega (arith, l);
           gone = p.lines ∙ gone_on;
           total = total_on;
-          marks =
-              p.marks ∙ ap (λ l. l ++ (Number (plus w t z) ∷ LineEnd ∷ [])) s.marks ∙ append_assoc old.marks r (Number (plus w t z) ∷ LineEnd ∷ []) ∙
-              ap (λ l. old.marks ++ l) (sym marks_on);
-          goes =
-              goes_on ∙ ap (λ l. r ++ l) p.goes_on ∙
-              sym (append_assoc r (Number (plus w t z) ∷ LineEnd ∷ []) (as_paper_goes weight (with_line weight (plus w t z) (taken new)).paper to_come)) ∙
-              ap (λ l. l ++ as_paper_goes weight (with_line weight (plus w t z) (taken new)).paper to_come) (sym marks_on);
+          marks = p.marks ∙ simp (s.marks, marks_on, append_assoc);
+          goes = goes_on ∙ simp (p.goes_on, marks_on, append_assoc);
         }
 
     all_marks : running w (pos 0) (take most old.lines) ≡ running w (pos 0) (take i old.lines) ++ (Number (plus w t z) ∷ LineEnd ∷ running w (plus w t z) (take (most - (i + 1)) (drop (i + 1) old.lines)))
     all_marks =
         let k : most ≡ i + (most - i) = omega (arith, few) in
-        ap (λ n. running w (pos 0) (take n old.lines)) k ∙ ap (running w (pos 0)) (take-add i (most - i) old.lines) ∙
-        running_append w (pos 0) (take i old.lines) (take (most - i) (drop i old.lines)) ∙
-        ap (λ u. running w (pos 0) (take i old.lines) ++ running w u (take (most - i) (drop i old.lines))) (sym s.total) ∙
-        ap (λ l. running w (pos 0) (take i old.lines) ++ l) unrolled
+        ap (λ n. running w (pos 0) (take n old.lines)) k ∙ simp (take-add, running_append) (ap (λ l. running w (pos 0) (take i old.lines) ++ l) (ap (λ u. running w u (take (most - i) (drop i old.lines))) (sym s.total) ∙ unrolled))
 
     stops : line_fits weight (plus w t z) (taken new) ≡ false →
         Tallied w weight most old (record { lines = i + 1; total = plus w t z; complete = false }) (with_line weight (plus w t z) (taken new))

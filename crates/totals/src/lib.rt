@@ -1,9 +1,7 @@
 // Running totals of a host's lines: one task, written once for every host and every arithmetic.
 #![tactic(auto)]
 
-ghost use Rattle.std.specs.Prelude.{◌≡◌, ℕ, ℤ, pos, is_ok};
-ghost use Rattle.host.specs.Meaning.{Meaning, fits, marked};
-ghost use Rattle.host.specs.declared.mark.Mark.TheVariants.{Number as number, LineEnd as line_end};
+ghost use Rattle.std.specs.Prelude.{◌≡◌, is_ok};
 ghost use Rattle.totals.specs.Running.{Tallied};
 ghost use Rattle.totals.specs.Lines.{line_fits, with_line};
 
