@@ -4,11 +4,14 @@ use Rattle.fault.specs.declared.Fault.{Fault}
 use Rattle.arithmetic.specs.Words.{Words}
 use Rattle.token.specs.Lexis.{digit}
 use Rattle.token.specs.Numbers.{every}
-use Rattle.limits.specs.Uses.{Role, number_use, at_head, is_label, key}
+use Rattle.limits.specs.Uses.{number_use, at_head, is_label, key}
 use Rattle.limits.specs.Symbols.{first_cell, cells_before}
 use Rattle.symbols.specs.declared.table.Table.{Table}
+use Rattle.symbols.specs.declared.kinds.Role.{Role}
+use Rattle.symbols.specs.declared.kinds.Spelling.{Spelling}
+use Rattle.symbols.specs.Entries.{meant}
 use Rattle.symbols.specs.Mentions.{Mention, uses_of, index, Sound}
-use Rattle.symbols.specs.Table.{Holds, Taken, Decides, NameTold, DigitsTold, mention}
+use Rattle.symbols.specs.Table.{Holds, Taken, Decides, NameTold, DigitsTold, Gives, mention}
 use Rattle.reader.specs.Telling.{Noted, CellRead, Short}
 
 -- the cell at the index of a use that is taken
@@ -27,17 +30,18 @@ pub refusal_noted : (w : Words) (b : Table) (seen : List Mention) (m : Mention) 
 refusal_noted w b seen m x f e d = subst (Noted w b seen m) (sym e) d
 
 -- places and lengths of a text that is short enough stand in 16 bits
-pub name_told : (a b : Table) (r : Role) (s : List ℕ) (p q n address : ℕ) (x : Result ℕ Fault) → NameTold a b r q n address x → q ≡ min p 65535 → n ≡ min (length s) 65535 →
-    (w : Words) (seen : List Mention) → Holds w a seen → Short p s → Sound a.text.now (mention r s p address) → Decides w b seen (mention r s p address) x
-name_told a b r s p q n address x told e f w seen h short sound =
-    let i : q ≡ p = omega (arith, short.place_short) in
-    subst (λ k. Decides w b seen (mention r s k address) x) i
-    (told w seen s h (omega (arith, short.bytes_short)) (subst (λ k. Sound a.text.now (mention r s k address)) (sym i) sound))
+pub name_told : (a b : Table) (r : Role) (s : List ℕ) (p : ℕ) (at : Spelling) (x : Result ℕ Fault) → NameTold a b r at x → at.place ≡ min p 65535 → at.length ≡ min (length s) 65535 →
+    (w : Words) (seen : List Mention) (address : ℕ) → Holds w a seen → Short p s → Gives r address → Sound a.text.now (mention (meant r) s p address) →
+    Decides w b seen (mention (meant r) s p address) x
+name_told a b r s p at x told e f w seen address h short given sound =
+    let i : at.place ≡ p = omega (arith, short.place_short) in
+    subst (λ k. Decides w b seen (mention (meant r) s k address) x) i
+    (told w seen s address h (omega (arith, short.bytes_short)) given (subst (λ k. Sound a.text.now (mention (meant r) s k address)) (sym i) sound))
 
-pub digits_told : (w : Words) (a b : Table) (s : List ℕ) (p q n : ℕ) (x : Result ℕ Fault) → DigitsTold w a b q n x → q ≡ min p 65535 → n ≡ min (length s) 65535 →
+pub digits_told : (w : Words) (a b : Table) (s : List ℕ) (p : ℕ) (at : Spelling) (x : Result ℕ Fault) → DigitsTold w a b at x → at.place ≡ min p 65535 → at.length ≡ min (length s) 65535 →
     (seen : List Mention) (address : ℕ) → Holds w a seen → Short p s → Sound a.text.now (mention number_use s p address) → every digit s ≡ true →
     Decides w b seen (mention number_use s p address) x
-digits_told w a b s p q n x told e f seen address h short sound d =
-    let i : q ≡ p = omega (arith, short.place_short) in
+digits_told w a b s p at x told e f seen address h short sound d =
+    let i : at.place ≡ p = omega (arith, short.place_short) in
     subst (λ k. Decides w b seen (mention number_use s k address) x) i
     (told seen s address h (omega (arith, short.bytes_short)) (subst (λ k. Sound a.text.now (mention number_use s k address)) (sym i) sound) d)

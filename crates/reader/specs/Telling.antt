@@ -7,11 +7,13 @@ use Rattle.token.specs.Lexis.{digit}
 use Rattle.token.specs.Numbers.{every}
 use Rattle.token.specs.Tokens.{Token, name, number, keyword, sign, other}
 use Rattle.arithmetic.specs.Words.{Words}
-use Rattle.limits.specs.Uses.{Role, number_use, Use, In, is_label, key}
+use Rattle.limits.specs.Uses.{number_use, Use, In, is_label, key}
 use Rattle.limits.specs.Symbols.{first_cell, cells_before}
 use Rattle.symbols.specs.declared.table.Table.{Table}
 use Rattle.symbols.specs.Mentions.{Mention, uses_of, index, Sound, use_refusal}
-use Rattle.symbols.specs.Table.{Holds, mention}
+use Rattle.symbols.specs.declared.kinds.Role.{Role}
+use Rattle.symbols.specs.Entries.{meant}
+use Rattle.symbols.specs.Table.{Holds, Gives, mention}
 use Rattle.reading.specs.References.{reference}
 
 -- a mention is entered, and what it refers to is answered; or the lowest refusal that stands at it
@@ -31,9 +33,10 @@ pub record Short (place : ℕ) (bytes : List ℕ) : Type 0 where
   pub bytes_short : length bytes < 65535
 
 -- a name in a role, at a place; `address` is that of the label that it may define
-abbrev pub NameNoted : Table → Table → Role → ℕ → List ℕ → ℕ → Result ℕ Fault → Type 0
-NameNoted a b r p s address x =
-    (w : Words) (seen : List Mention) → Holds w a seen → Short p s → Sound a.text.now (mention r s p address) → Noted w b seen (mention r s p address) x
+abbrev pub NameNoted : Table → Table → Role → ℕ → List ℕ → Result ℕ Fault → Type 0
+NameNoted a b r p s x =
+    (w : Words) (seen : List Mention) (address : ℕ) → Holds w a seen → Short p s → Gives r address → Sound a.text.now (mention (meant r) s p address) →
+    Noted w b seen (mention (meant r) s p address) x
 
 -- a number
 abbrev pub NumberNoted : Words → Table → Table → ℕ → List ℕ → Result ℕ Fault → Type 0
@@ -42,10 +45,10 @@ NumberNoted w a b p s x =
     Noted w b seen (mention number_use s p address) x
 
 -- any token: others are not told, and refer to nothing
-abbrev pub TokenNoted : Words → Table → Table → Role → ℕ → ℕ → Option Token → Result ℕ Fault → Type 0
-TokenNoted w a b r p address None x = (b ≡ a) × (x ≡ Ok 0)
-TokenNoted w a b r p address (Some (name s)) x = NameNoted a b r p s address x
-TokenNoted w a b r p address (Some (number s)) x = NumberNoted w a b p s x
-TokenNoted w a b r p address (Some (keyword k)) x = (b ≡ a) × (x ≡ Ok 0)
-TokenNoted w a b r p address (Some (sign s)) x = (b ≡ a) × (x ≡ Ok 0)
-TokenNoted w a b r p address (Some (other v)) x = (b ≡ a) × (x ≡ Ok 0)
+abbrev pub TokenNoted : Words → Table → Table → Role → ℕ → Option Token → Result ℕ Fault → Type 0
+TokenNoted w a b r p None x = (b ≡ a) × (x ≡ Ok 0)
+TokenNoted w a b r p (Some (name s)) x = NameNoted a b r p s x
+TokenNoted w a b r p (Some (number s)) x = NumberNoted w a b p s x
+TokenNoted w a b r p (Some (keyword k)) x = (b ≡ a) × (x ≡ Ok 0)
+TokenNoted w a b r p (Some (sign s)) x = (b ≡ a) × (x ≡ Ok 0)
+TokenNoted w a b r p (Some (other v)) x = (b ≡ a) × (x ≡ Ok 0)

@@ -2,53 +2,27 @@
 ghost use Rattle.std.specs.Prelude.{◌≡◌, min, length};
 ghost use Rattle.token.specs.Views.{meant};
 ghost use Rattle.symbols.specs.Entries.{meant as use_meant};
-ghost use Rattle.symbols.specs.Table.{Keeps};
+ghost use Rattle.symbols.specs.Table.{Gives, Keeps};
 ghost use Rattle.reader.specs.Telling.{CellRead, NameNoted, NumberNoted, TokenNoted};
 ghost use Rattle.reading.specs.Reads.{role_at};
-ghost use Rattle.limits.specs.Uses.{is_listed, is_label as labels};
 
 use arithmetic::Arithmetic;
 use emission::state::State;
 use fault::Fault;
-use symbols::kinds::Role;
+use symbols::kinds::{Role, Spelling};
 use symbols::table::Table;
 use token::tokens::{Lexeme, Token};
 
-// The role of a name that comes at a state, and before OF or not.
-pub fn role(state: State, of_next: bool) -> Role
-    ensures { use_meant result ≡ role_at state of_next }
+// The role of a name that comes at a state, and before OF or not; a label before a command has the command's address.
+pub fn role(state: State, of_next: bool, address: u16) -> Role
+    ensures means { use_meant result ≡ role_at state of_next }
+    ensures gives { Gives result address }
 {
     match state {
-        State::Start => Role::Definition,
-        State::ToWord => {
-            if of_next {
-                Role::Variable
-            } else {
-                Role::Target
-            }
-        }
+        State::Start => Role::Definition(address),
+        State::ToWord if !of_next => Role::Target,
         State::OfWord | State::OfComma => Role::Listed,
         _ => Role::Variable,
-    }
-}
-
-// Whether it is a label in a list after OF.
-pub fn is_listed(role: Role) -> bool
-    ensures { result ≡ is_listed (use_meant role) }
-{
-    match role {
-        Role::Listed => true,
-        _ => false,
-    }
-}
-
-// Whether it is a label.
-fn is_label(role: Role) -> bool
-    ensures { result ≡ labels (use_meant role) }
-{
-    match role {
-        Role::Variable => false,
-        _ => true,
     }
 }
 
@@ -56,17 +30,25 @@ fn is_label(role: Role) -> bool
 fn short(n: usize) -> u16
     ensures { result ≡ min n 65535 }
 {
-    if n < 65_535 { n as u16 } else { 65_535 }
+    n.min(65_535) as u16
+}
+
+// Where the bytes of a token are spelled.
+fn spelling(place: usize, bytes: &[u8]) -> Spelling
+    ensures place { result.place ≡ min place 65535 }
+    ensures length { result.length ≡ min (length bytes.now) 65535 }
+{
+    Spelling {
+        place: short(place),
+        length: short(bytes.len()),
+    }
 }
 
 // The cell of the symbol at an index.
 fn cell(table: &Table<'_, '_, '_>, index: u16) -> u16
     ensures { CellRead table.now index result }
 {
-    match table.symbol(index) {
-        Some(symbol) => symbol.at,
-        None => 0,
-    }
+    table.symbol(index).map_or(0, |symbol| symbol.at)
 }
 
 // Tells the table of a name: what it refers to, or the refusal of 4 to 8 that stands at it.
@@ -75,13 +57,12 @@ fn note_name(
     role: Role,
     place: usize,
     bytes: &[u8],
-    address: u16,
 ) -> Result<u16, Fault>
     ensures kept { Keeps table.old table.new }
-    ensures told { NameNoted table.old table.new (use_meant role) place bytes.now address result }
+    ensures told { NameNoted table.old table.new role place bytes.now result }
 {
-    let index = table.note_name(role, short(place), short(bytes.len()), address)?;
-    if is_label(role) {
+    let index = table.note_name(role, spelling(place, bytes))?;
+    if role.is_label() {
         return Ok(index);
     }
     Ok(cell(table, index))
@@ -96,7 +77,7 @@ fn note_number<N: Arithmetic>(
     ensures kept { Keeps table.old table.new }
     ensures told { NumberNoted N.Arithmetic.words table.old table.new place bytes.now result }
 {
-    let index = table.note_number::<N>(short(place), short(bytes.len()))?;
+    let index = table.note_number::<N>(spelling(place, bytes))?;
     Ok(cell(table, index))
 }
 
@@ -105,13 +86,12 @@ pub fn note<N: Arithmetic>(
     table: &mut Table<'_, '_, '_>,
     role: Role,
     lexeme: Lexeme<'_>,
-    address: u16,
 ) -> Result<u16, Fault>
     ensures kept { Keeps table.old table.new }
-    ensures told { TokenNoted N.Arithmetic.words table.old table.new (use_meant role) lexeme.entry.offset address (meant lexeme.entry.token) result }
+    ensures told { TokenNoted N.Arithmetic.words table.old table.new role lexeme.entry.offset (meant lexeme.entry.token) result }
 {
     match lexeme.token {
-        Token::Name(bytes) => note_name(table, role, lexeme.offset, bytes, address),
+        Token::Name(bytes) => note_name(table, role, lexeme.offset, bytes),
         Token::Number(bytes) => note_number::<N>(table, lexeme.offset, bytes),
         _ => Ok(0),
     }

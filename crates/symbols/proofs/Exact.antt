@@ -2,7 +2,7 @@
 use Rattle.std.proofs.Common.{◌≡◌, ℕ, ◌<◌, ◌≤◌, Bool, true, false, cond, not, ◌&&◌, ◌||◌, ltb, leb, ◌⊎◌, List, [], ◌∷◌, length, sym, refl, ap, ◌∙◌, subst, inl, inr}
 use mathlib.Core.Option.{Option, none, some, none-ne-some}
 use Rattle.std.specs.Str.{bytes_eq}
-use Rattle.std.proofs.lemmas.Bool.{false≢true, and_parts, and_from, le-leb, lt-leb, lt-ltb, le-ltb, not-true, not_from_false}
+use Rattle.std.proofs.lemmas.Bool.{false≢true, and_left, and_right, and_parts, and_from, le-leb, lt-leb, lt-ltb, le-ltb, not-true, not_from_false}
 use Rattle.token.specs.Numbers.{word}
 use Rattle.arithmetic.specs.Words.{Words}
 use Rattle.limits.specs.Uses.{Role, definition, target, listed, variable_use, number_use, Use, made, In, at_head, in_tail, is_literal, is_definition, is_label, Key, label_key, variable_key, number_key, key_by, known, cells, labels}
@@ -48,13 +48,6 @@ definition_label target e = refl
 definition_label listed e = refl
 definition_label variable_use e = absurd (false≢true e)
 definition_label number_use e = absurd (false≢true e)
-
-definition_key : (w : Words) (r : Role) (s : List ℕ) → is_definition r ≡ true → key_by w r s ≡ label_key s
-definition_key w definition s e = refl
-definition_key w target s e = absurd (false≢true e)
-definition_key w listed s e = absurd (false≢true e)
-definition_key w variable_use s e = absurd (false≢true e)
-definition_key w number_use s e = absurd (false≢true e)
 
 pub label_not_literal : (r : Role) → is_label r ≡ true → is_literal r ≡ false
 label_not_literal definition e = refl
@@ -121,13 +114,6 @@ pub in_cases : {A : Type 0} {x v : A} {xs : List A} → In x (v ∷ xs) → (v �
 in_cases at_head = inl refl
 in_cases (in_tail i) = inr i
 
-pub and_second : (a b : Bool) → b ≡ false → (a && b) ≡ false
-and_second true b e = e
-and_second false b e = refl
-
-pub and_first : (a b : Bool) → a ≡ false → (a && b) ≡ false
-and_first a b e = ap (λ x. x && b) e
-
 module _ (w : Words) where
   -- the five tests
   abbrev pub is_long_lem : Role → List ℕ → Bool
@@ -169,15 +155,15 @@ module _ (w : Words) where
   -- a known symbol needs no room
   module _ (us : List Use) (r : Role) (s : List ℕ) (h : known w (key_by w r s) us ≡ true) where
     has_cell : no_cell_left us r s ≡ false
-    has_cell = and_second (not (is_label r)) _ (ap (λ x. not x && leb cell_limit (cells w us)) h)
+    has_cell = and_right (not (is_label r)) _ (ap (λ x. not x && leb cell_limit (cells w us)) h)
 
     has_label : no_label_left us r s ≡ false
-    has_label = and_second (is_label r) _ (ap (λ x. not x && leb label_limit (labels w us)) h)
+    has_label = and_right (is_label r) _ (ap (λ x. not x && leb label_limit (labels w us)) h)
 
   -- a short name
   module _ (us : List Use) (r : Role) (s : List ℕ) (is_name : is_literal r ≡ false) (short : length s ≤ name_limit) where
     four : is_long_lem r s ≡ false
-    four = and_second (not (is_literal r)) _ (le-ltb name_limit (length s) short)
+    four = and_right (not (is_literal r)) _ (le-ltb name_limit (length s) short)
 
     -- that is found, in the role q
     module _ (ok : Accepted w us) (q : Role) (found : In (made q s) us) (name-too : is_literal q ≡ false) where
@@ -226,7 +212,7 @@ module _ (w : Words) where
       no_definition = none_among is_definition s us (λ q i e. none_named q (label_not_literal q (definition_label q e)) i)
 
       not_second : is_second us r s ≡ false
-      not_second = and_second (is_definition r) _ no_definition
+      not_second = and_right (is_definition r) _ no_definition
 
       first_kind : is_other us r s ≡ false
       first_kind = none_among (differ r) s us (λ q i e. none_named q (differs r q e).second_name i)
@@ -239,21 +225,21 @@ module _ (w : Words) where
 
       pub some_cell : is_label r ≡ false → cells w us < cell_limit → use_refusal w us (made r s) ≡ none
       some_cell l h =
-          let p : no_cell_left us r s ≡ false = and_second (not (is_label r)) _ (and_second (not (known w (key_by w r s) us)) _ (lt-leb cell_limit (cells w us) h)) in
-          let q : no_label_left us r s ≡ false = and_first (is_label r) _ l in
+          let p : no_cell_left us r s ≡ false = and_right (not (is_label r)) _ (and_right (not (known w (key_by w r s) us)) _ (lt-leb cell_limit (cells w us) h)) in
+          let q : no_label_left us r s ≡ false = and_left (is_label r) _ l in
           (λ i. answer (four i) (not_second i) (first_kind i) (p i) (q i))
 
       pub no_room : is_label r ≡ true → label_limit ≤ labels w us → use_refusal w us (made r s) ≡ some 8
       no_room l h =
-          let p : no_cell_left us r s ≡ false = and_first (not (is_label r)) _ (ap not l) in
+          let p : no_cell_left us r s ≡ false = and_left (not (is_label r)) _ (ap not l) in
           let q : no_label_left us r s ≡ true =
           and_from (is_label r) _ l (and_from (not (known w (key_by w r s) us)) _ (not_from_false (known w (key_by w r s) us) new_name) (le-leb label_limit (labels w us) h)) in
           (λ i. answer (four i) (not_second i) (first_kind i) (p i) (q i))
 
       pub some_room : is_label r ≡ true → labels w us < label_limit → use_refusal w us (made r s) ≡ none
       some_room l h =
-          let p : no_cell_left us r s ≡ false = and_first (not (is_label r)) _ (ap not l) in
-          let q : no_label_left us r s ≡ false = and_second (is_label r) _ (and_second (not (known w (key_by w r s) us)) _ (lt-leb label_limit (labels w us) h)) in
+          let p : no_cell_left us r s ≡ false = and_left (not (is_label r)) _ (ap not l) in
+          let q : no_label_left us r s ≡ false = and_right (is_label r) _ (and_right (not (known w (key_by w r s) us)) _ (lt-leb label_limit (labels w us) h)) in
           (λ i. answer (four i) (not_second i) (first_kind i) (p i) (q i))
 
   -- a number
@@ -272,7 +258,7 @@ module _ (w : Words) where
 
     pub new_number : cells w us < cell_limit → use_refusal w us (made number_use s) ≡ none
     new_number h =
-        let p : no_cell_left us number_use s ≡ false = and_second (not (known w (number_key (word w s)) us)) _ (lt-leb cell_limit (cells w us) h) in
+        let p : no_cell_left us number_use s ≡ false = and_right (not (known w (number_key (word w s)) us)) _ (lt-leb cell_limit (cells w us) h) in
         (λ i. answer false false (one_kind i) (p i) false)
 
 -- a label is pending exactly if it stands before no command

@@ -51,25 +51,25 @@ label_name : (w : Words) (r : Role) (t s : List ℕ) → key_by w r t ≡ label_
 label_name w definition t s e = record { is_name = refl; spells = cc }
 label_name w target t s e = record { is_name = refl; spells = cc }
 label_name w listed t s e = record { is_name = refl; spells = cc }
-label_name w variable_use t s e = let z : ◌≡◌ {A = ℕ} 0 1 = cc in absurd (omega arith)
-label_name w number_use t s e = let z : ◌≡◌ {A = ℕ} 0 1 = cc in absurd (omega arith)
+label_name w variable_use t s e = absurd (cc)
+label_name w number_use t s e = absurd (cc)
 
 variable_name : (w : Words) (r : Role) (t s : List ℕ) → key_by w r t ≡ variable_key s → Named r t s
-variable_name w definition t s e = let z : ◌≡◌ {A = ℕ} 0 1 = cc in absurd (omega arith)
-variable_name w target t s e = let z : ◌≡◌ {A = ℕ} 0 1 = cc in absurd (omega arith)
-variable_name w listed t s e = let z : ◌≡◌ {A = ℕ} 0 1 = cc in absurd (omega arith)
+variable_name w definition t s e = absurd (cc)
+variable_name w target t s e = absurd (cc)
+variable_name w listed t s e = absurd (cc)
 variable_name w variable_use t s e = record { is_name = refl; spells = cc }
-variable_name w number_use t s e = let z : ◌≡◌ {A = ℕ} 0 1 = cc in absurd (omega arith)
+variable_name w number_use t s e = absurd (cc)
 
 record Valued (w : Words) (r : Role) (t : List ℕ) (v : ℤ) : Type 0 where
   is_number : r ≡ number_use
   is_word : word w t ≡ v
 
 number_name : (w : Words) (r : Role) (t : List ℕ) (v : ℤ) → key_by w r t ≡ number_key v → Valued w r t v
-number_name w definition t v e = let z : ◌≡◌ {A = ℕ} 0 1 = cc in absurd (omega arith)
-number_name w target t v e = let z : ◌≡◌ {A = ℕ} 0 1 = cc in absurd (omega arith)
-number_name w listed t v e = let z : ◌≡◌ {A = ℕ} 0 1 = cc in absurd (omega arith)
-number_name w variable_use t v e = let z : ◌≡◌ {A = ℕ} 0 1 = cc in absurd (omega arith)
+number_name w definition t v e = absurd (cc)
+number_name w target t v e = absurd (cc)
+number_name w listed t v e = absurd (cc)
+number_name w variable_use t v e = absurd (cc)
 number_name w number_use t v e = record { is_number = refl; is_word = cc }
 
 -- a mention of a sound list is sound

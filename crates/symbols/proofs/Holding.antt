@@ -1,10 +1,11 @@
 -- What the table holds after one use more.
-use Rattle.std.proofs.Common.{◌≡◌, ℕ, ◌+◌, ◌<◌, ◌≤◌, Bool, true, false, cond, not, ◌&&◌, ◌⊎◌, List, [], ◌∷◌, ◌++◌, map, length, get_or, take, drop, set, ℤ, sym, refl, ap, ◌∙◌, subst, inl, inr, add-one, arith, length-set, get_or-set_other, get_or-set_same, ext_get_or}
+use Rattle.std.proofs.Common.{◌≡◌, ◌≢◌, ℕ, ◌+◌, ◌<◌, ◌≤◌, Bool, true, false, cond, eqb, not, ◌&&◌, ◌⊎◌, List, [], ◌∷◌, ◌++◌, map, length, get_or, take, drop, set, ℤ, sym, refl, ap, ◌∙◌, subst, inl, inr, add-one, arith, length-set, get_or-set_other, get_or-set_same, ext_get_or}
 use mathlib.Core.Option.{none}
 use lib.Seq.{take-set-lt, drop-set-add, map-set}
 use Rattle.std.specs.Str.{bytes_eq}
 use Rattle.std.proofs.lemmas.List.{get_or-map, length-map, map-append, take_more_set, length-drop}
-use Rattle.std.proofs.lemmas.Bool.{false≢true, and_parts, cases_lt}
+use Rattle.std.proofs.lemmas.Bool.{false≢true, and_left, and_right, and_parts}
+use Rattle.std.proofs.lemmas.Bool.Decides.{eqb_tells}
 use Rattle.trees.specs.Trees.{Name}
 use Rattle.arithmetic.specs.Words.{Words}
 use Rattle.limits.specs.Uses.{Role, definition, target, listed, variable_use, number_use, Use, is_definition, is_label, Key, label_key, key_by, key, known, count_if, cells, labels}
@@ -12,24 +13,10 @@ use Rattle.limits.specs.Symbols.{first_cell, kind_of}
 use Rattle.limits.proofs.Keys.{Way, holds, fails, way, clash, same_bytes_sound, same_bytes_complete}
 use Rattle.symbols.specs.declared.table.Table.{Table}
 use Rattle.symbols.specs.Entries.{Kind, Label, Spelling, Symbol, blank, entry, kind_entry}
-use Rattle.symbols.specs.Mentions.{Mention, uses_of, address_in, Sound, AllSound, entries, count, index, initial, contents, use_refusal}
+use Rattle.symbols.specs.Mentions.{Mention, uses_of, address_in, Sound, AllSound, entries, index, initial, contents, use_refusal}
 use Rattle.symbols.specs.Table.{size, Holds, AddsCell, AddsLabel, PlacesLabel, cell_symbol, label_symbol, moved_to}
 use Rattle.symbols.proofs.Firsts.{First, no_first, entered, key_of, firsts, entries_are, firsts_new, firsts_old}
-use Rattle.symbols.proofs.Exact.{and_second, and_first}
 use Rattle.symbols.proofs.Finding.{the, firsts_size, symbols_firsts, entry_at, the_first}
-
--- two numbers
-data Same (i j : ℕ) : Type 0 where
-  this : i ≡ j → Same i j
-  other : (i ≡ j → ⊥) → Same i j
-
-same : (i j : ℕ) → Same i j
-same i j = by (cases_lt i j) (cases_lt j i)
-  where
-    by : (i < j) ⊎ (j ≤ i) → (j < i) ⊎ (i ≤ j) → Same i j
-    by (inl l) k = other (λ q. omega arith)
-    by (inr l) (inl k) = other (λ q. omega arith)
-    by (inr l) (inr k) = this (omega arith)
 
 -- two functions over a list
 module _ {A B : Type 0} (g h : A → B) (xs : List A) (d : A) where
@@ -40,13 +27,13 @@ module _ {A B : Type 0} (g h : A → B) (xs : List A) (d : A) where
 
   -- that differ at one place
   pub map_but : (j : ℕ) → j < length xs → ((i : ℕ) → i < length xs → (i ≡ j → ⊥) → g (get_or xs i d) ≡ h (get_or xs i d)) → map g xs ≡ set (map h xs) j (g (get_or xs j d))
-  map_but j m e = ext_get_or (h d) (map g xs) (set (map h xs) j (g (get_or xs j d))) (length-map xs g ∙ sym (length-set (map h xs) j (g (get_or xs j d)) ∙ length-map xs h)) (λ i l. at i (subst (λ (n : ℕ). i < n) (length-map xs g) l) (same i j))
+  map_but j m e = ext_get_or (h d) (map g xs) (set (map h xs) j (g (get_or xs j d))) (length-map xs g ∙ sym (length-set (map h xs) j (g (get_or xs j d)) ∙ length-map xs h)) (λ i l. at i (subst (λ (n : ℕ). i < n) (length-map xs g) l) (eqb_tells i j))
     where
-      at : (i : ℕ) → i < length xs → Same i j → get_or (map g xs) i (h d) ≡ get_or (set (map h xs) j (g (get_or xs j d))) i (h d)
-      at i l (this q) =
+      at : (i : ℕ) → i < length xs → ((eqb i j ≡ true) × (i ≡ j)) ⊎ ((eqb i j ≡ false) × (i ≢ j)) → get_or (map g xs) i (h d) ≡ get_or (set (map h xs) j (g (get_or xs j d))) i (h d)
+      at i l (inl q) =
           let n : j < length (map h xs) = rw (length-map xs h) m in
-          get_or-map g xs i d (h d) l ∙ ap (λ x. g (get_or xs x d)) q ∙ sym (ap (λ x. get_or (set (map h xs) j (g (get_or xs j d))) x (h d)) q ∙ get_or-set_same (map h xs) j (g (get_or xs j d)) (h d) n)
-      at i l (other q) = get_or-map g xs i d (h d) l ∙ e i l q ∙ sym (get_or-map h xs i d (h d) l) ∙ sym (get_or-set_other (map h xs) j i (g (get_or xs j d)) (h d) q)
+          get_or-map g xs i d (h d) l ∙ ap (λ x. g (get_or xs x d)) q.1 ∙ sym (ap (λ x. get_or (set (map h xs) j (g (get_or xs j d))) x (h d)) q.1 ∙ get_or-set_same (map h xs) j (g (get_or xs j d)) (h d) n)
+      at i l (inr q) = get_or-map g xs i d (h d) l ∙ e i l q.1 ∙ sym (get_or-map h xs i d (h d) l) ∙ sym (get_or-set_other (map h xs) j i (g (get_or xs j d)) (h d) q.1)
 
 label_kind : (r : Role) → is_label r ≡ true → kind_entry (kind_of r) ≡ Label
 label_kind definition e = refl
@@ -120,13 +107,13 @@ module _ (w : Words) (a : Table) (seen : List Mention) (h : Holds w a seen) (m :
   -- a known symbol, that is not placed now
   module _ (old : known w k us ≡ true) where
     cells_stay : cells w (m.used ∷ us) ≡ cells w us
-    cells_stay = same_size _ (cells w us) (and_second (not (is_label r)) _ (ap not old))
+    cells_stay = same_size _ (cells w us) (and_right (not (is_label r)) _ (ap not old))
 
     labels_stay : labels w (m.used ∷ us) ≡ labels w us
-    labels_stay = same_size _ (labels w us) (and_second (is_label r) _ (ap not old))
+    labels_stay = same_size _ (labels w us) (and_right (is_label r) _ (ap not old))
 
     contents_stay : contents w (m.used ∷ us) ≡ contents w us
-    contents_stay = ap (λ x. cond x (contents w us ++ (initial w m.used ∷ [])) (contents w us)) (and_second (not (is_label r)) _ (ap not old))
+    contents_stay = ap (λ x. cond x (contents w us ++ (initial w m.used ∷ [])) (contents w us)) (and_right (not (is_label r)) _ (ap not old))
 
     entries_then : entries w then_at (m ∷ seen) ≡ map (entered then_at) fs
     entries_then = entries_are w then_at (m ∷ seen) ∙ ap (map (entered then_at)) (firsts_old w m seen old)
@@ -172,9 +159,6 @@ module _ (w : Words) (a : Table) (seen : List Mention) (h : Holds w a seen) (m :
 
   -- a new symbol
   module _ (new : known w k us ≡ false) where
-    index_new : size a ≡ index w k (m.used ∷ us)
-    index_new = (λ i. h.cell_count i + h.label_count i) ∙ sym (ap (λ x. cond x (index w k us) (count w us)) new)
-
     -- what is at the end of the entries
     grown : (at : ℕ) (v : Symbol) → at < length a.symbols.now → at ≡ size a → map (entered then_at) fs ≡ map (entered now_at) fs → v ≡ entry (entered then_at f) →
         take (at + 1) (set a.symbols.now at v) ≡ map entry (entries w then_at (m ∷ seen))
@@ -193,7 +177,7 @@ module _ (w : Words) (a : Table) (seen : List Mention) (h : Holds w a seen) (m :
         let room : size a < length a.symbols.now = omega arith in
         let croom : a.celled < length (drop first_cell a.cells.now) = simp length-drop (omega arith) in
         let more : (not (is_label r) && not (known w k us)) ≡ true = (λ j. not (n j) && not (new j)) in
-        let none_more : (is_label r && not (known w k us)) ≡ false = and_first (is_label r) _ n in
+        let none_more : (is_label r && not (known w k us)) ≡ false = and_left (is_label r) _ n in
         record {
           symbols_room = subst (λ (n : ℕ). 702 ≤ n) (sym (ap length p.symbols_are ∙ length-set a.symbols.now (size a) _)) h.symbols_room;
           cells_room = subst (λ (n : ℕ). 512 ≤ n) (sym (ap length p.cells_are ∙ length-set a.cells.now (first_cell + a.celled) v)) h.cells_room;
@@ -219,7 +203,7 @@ module _ (w : Words) (a : Table) (seen : List Mention) (h : Holds w a seen) (m :
         let one : a.celled + (a.labels + 1) ≡ size a + 1 = omega arith in
         let room : size a < length a.symbols.now = omega arith in
         let more : (is_label r && not (known w k us)) ≡ true = (λ j. n j && not (new j)) in
-        let none_more : (not (is_label r) && not (known w k us)) ≡ false = and_first (not (is_label r)) _ (ap not n) in
+        let none_more : (not (is_label r) && not (known w k us)) ≡ false = and_left (not (is_label r)) _ (ap not n) in
         record {
           symbols_room = subst (λ (n : ℕ). 702 ≤ n) (sym (ap length p.symbols_are ∙ length-set a.symbols.now (size a) _)) h.symbols_room;
           cells_room = subst (λ (n : ℕ). 512 ≤ n) (sym (ap length p.cells_are)) h.cells_room;

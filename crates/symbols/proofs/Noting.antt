@@ -2,6 +2,7 @@
 use Rattle.std.proofs.Common.{◌≡◌, ℕ, ◌+◌, ◌<◌, ◌≤◌, Bool, true, false, cond, not, ◌&&◌, eqb, ltb, leb, List, ◌∷◌, length, get_or, take, drop, ℤ, pos, Some, None, Option, Err, Result, sym, refl, ap, ◌∙◌, subst, le_refl, arith, length-set, drop-set-lt}
 use mathlib.Core.Option as maybe
 use lib.Seq.{take-set-le}
+use Rattle.std.proofs.lemmas.Option.{none-some}
 use Rattle.std.proofs.lemmas.Bool.{and_parts, leb-true, leb-false, ltb-true, ltb-false}
 use Rattle.std.proofs.lemmas.Bool.Decides.{nat_tests}
 use Rattle.token.specs.Lexis.{digit}
@@ -37,7 +38,7 @@ number_of (Some x) = maybe.some (numbered x)
 -- a refusal that is found at the place of a use is answered there
 pub refuses : (w : Words) (b : Table) (seen : List Mention) (m : Mention) (r : Option Refusal) (f : Fault) (x : Result ℕ Fault) →
     use_refusal w (uses_of seen) m.used ≡ number_of r → Some f ≡ option_map (fault_at m.place) r → x ≡ Err f → Decides w b seen m x
-refuses w b seen m None f x h e q = let z : ◌≡◌ {A = ℕ} 0 1 = cc in absurd (omega arith)
+refuses w b seen m None f x h e q = absurd (cc)
 refuses w b seen m (Some r) f x h e q =
     let g : f ≡ fault_at m.place r = cc in
     subst (Decides w b seen m) (sym q) (h ∙ ap (λ (y : Fault). maybe.some (numbered y.refusal)) (sym g), ap (λ (y : Fault). y.place) g)
@@ -47,7 +48,7 @@ no_fault = None
 
 pub found_none : (p : ℕ) (x : Option Refusal) → no_fault ≡ option_map (fault_at p) x → x ≡ None
 found_none p None e = refl
-found_none p (Some r) e = let z : ◌≡◌ {A = ℕ} 0 1 = cc in absurd (omega arith)
+found_none p (Some r) e = absurd (cc)
 
 pub name_role : (r : Told) → is_literal (meant r) ≡ false
 name_role (told.Definition a) = refl
@@ -67,9 +68,6 @@ no_definition (told.Definition a) n = absurd (n a refl)
 no_definition told.Target n = refl
 no_definition told.Listed n = refl
 no_definition told.Variable n = refl
-
-none_some : (x : Refusal) → ◌≡◌ {A = Option Refusal} None (Some x) → ⊥
-none_some x e = let z : ◌≡◌ {A = ℕ} 0 1 = cc in omega arith
 
 unlike_same : (a b : Bool) → unlike a b ≡ false → a ≡ b
 unlike_same true true e = refl
@@ -169,8 +167,8 @@ module _ (w : Words) (a : Table) (seen : List Mention) (h : Holds w a seen) (r :
         same_kind = by (way (is_definition r && (of_label e.kind && not (eqb e.at pending)))) (way (unlike (is_label r) (of_label e.kind)))
           where
             by : Way (is_definition r && (of_label e.kind && not (eqb e.at pending))) → Way (unlike (is_label r) (of_label e.kind)) → is_label r ≡ is_label q
-            by (holds d) k = absurd (none_some DuplicateLabel (sym fine ∙ ap (λ b. cond b (Some DuplicateLabel) (cond (unlike (is_label r) (of_label e.kind)) (Some MixedKind) None)) d))
-            by (fails d) (holds k) = absurd (none_some MixedKind (sym fine ∙ (λ j. cond (d j) (Some DuplicateLabel) (cond (k j) (Some MixedKind) None))))
+            by (holds d) k = absurd (none-some DuplicateLabel (sym fine ∙ ap (λ b. cond b (Some DuplicateLabel) (cond (unlike (is_label r) (of_label e.kind)) (Some MixedKind) None)) d))
+            by (fails d) (holds k) = absurd (none-some MixedKind (sym fine ∙ (λ j. cond (d j) (Some DuplicateLabel) (cond (k j) (Some MixedKind) None))))
             by (fails d) (fails k) = unlike_same _ _ k ∙ kind_is
 
         its_key : key_of w f ≡ key_by w r s
@@ -234,14 +232,14 @@ module _ (w : Words) (a : Table) (seen : List Mention) (h : Holds w a seen) (r :
           where
             by : Way (leb label_limit a.labels) → a.labels < 256
             by (fails m) = leb-false label_limit a.labels m
-            by (holds m) = absurd (none_some TooManyLabels (sym fine ∙ (λ j. cond (l j) (cond (m j) (Some TooManyLabels) None) (cond (leb cell_limit a.celled) (Some TooManyCells) None))))
+            by (holds m) = absurd (none-some TooManyLabels (sym fine ∙ (λ j. cond (l j) (cond (m j) (Some TooManyLabels) None) (cond (leb cell_limit a.celled) (Some TooManyCells) None))))
 
         few_cells : is_label r ≡ false → a.celled < 446
         few_cells l = by (way (leb cell_limit a.celled))
           where
             by : Way (leb cell_limit a.celled) → a.celled < 446
             by (fails m) = leb-false cell_limit a.celled m
-            by (holds m) = absurd (none_some TooManyCells (sym fine ∙ (λ j. cond (l j) (cond (leb label_limit a.labels) (Some TooManyLabels) None) (cond (m j) (Some TooManyCells) None))))
+            by (holds m) = absurd (none-some TooManyCells (sym fine ∙ (λ j. cond (l j) (cond (leb label_limit a.labels) (Some TooManyLabels) None) (cond (m j) (Some TooManyCells) None))))
 
         -- where the label stands then
         then_at : cond (is_definition r) address pending ≡ address_in (mention r s at.place address ∷ seen) s
@@ -358,31 +356,6 @@ module _ (a b : Table) where
       by (holds l) = keeps_label _ (subst (λ (z : Bool). cond z (AddsLabel a b (label_symbol at address)) (AddsCell a b (cell_symbol Variable at a.celled) (pos 0))) l x)
       by (fails l) = keeps_cell _ (pos 0) (subst (λ (z : Bool). cond z (AddsLabel a b (label_symbol at address)) (AddsCell a b (cell_symbol Variable at a.celled) (pos 0))) l x)
 
-  pub name_size : (r : Role) (at : Spelling) (address : ℕ) → AddsName a b r at address → size b ≡ size a + 1
-  name_size r at address x = by (way (is_label r))
-    where
-      by : Way (is_label r) → size b ≡ size a + 1
-      by (holds l) =
-          let y = subst (λ (z : Bool). cond z (AddsLabel a b (label_symbol at address)) (AddsCell a b (cell_symbol Variable at a.celled) (pos 0))) l x in
-          omega (arith, y.celled_are, y.labels_are)
-      by (fails l) =
-          let y = subst (λ (z : Bool). cond z (AddsLabel a b (label_symbol at address)) (AddsCell a b (cell_symbol Variable at a.celled) (pos 0))) l x in
-          omega (arith, y.celled_are, y.labels_are)
-
-  pub keeps_placed : (i address : ℕ) → i < size a → PlacesLabel a b i address → Keeps a b
-  keeps_placed i address low x = record {
-    lent_symbols = x.lent_symbols;
-    lent_cells = x.lent_cells;
-    text = x.text;
-    more_cells = omega (arith, x.celled_are);
-    more_labels = omega (arith, x.labels_are);
-    symbols_size = ap length x.symbols_are ∙ length-set a.symbols.now i _;
-    cells_size = ap length x.cells_are;
-    symbols_beyond = λ n l. ap (drop n) x.symbols_are ∙ drop-set-lt n a.symbols.now i _ (omega (arith, x.celled_are, x.labels_are));
-    cells_below = ap (take first_cell) x.cells_are;
-    cells_beyond = λ n l. ap (drop n) x.cells_are;
-  }
-
 -- the word of digits
 pub word_of : (w : Words) (bs : List ℕ) (v : ℤ) → Some v ≡ word_if_digits w bs → (every digit bs ≡ true) × (word w bs ≡ v)
 word_of w bs v e = by (way (every digit bs))
@@ -395,4 +368,4 @@ word_of w bs v e = by (way (every digit bs))
     by (fails d) = let z : Some v ≡ None = e ∙ ap (λ b. cond b (Some (word w bs)) None) d in absurd (not_none z)
       where
         not_none : Some v ≡ None → ⊥
-        not_none z = let y : ◌≡◌ {A = ℕ} 0 1 = cc in omega arith
+        not_none z = cc

@@ -36,7 +36,7 @@ digit_some b d e = by (cases_Bool (digit b)) e
   where
     by : Way (digit b) → Some d ≡ cond (digit b) (Some (b - 48)) None → (digit b ≡ true) × (d ≡ b - 48)
     by (inl h) e = let f : Some d ≡ Some (b - 48) = rw h at e in (h, cc)
-    by (inr h) e = let f : Some d ≡ None = rw h at e in let z : ◌≡◌ {A = ℕ} 0 1 = cc in absurd (omega arith)
+    by (inr h) e = let f : Some d ≡ None = rw h at e in absurd (cc)
 
 -- the word so far, z, and one digit more
 pub word_more : (w : Words) → Lawful w → (bs : List ℕ) (b d : ℕ) {z r : ℤ} → z ≡ word w bs → digit b ≡ true → d ≡ b - 48 → r ≡ w.fit ((pos 10 *ℤ z) +ℤ pos d) → r ≡ word w (bs ++ (b ∷ []))

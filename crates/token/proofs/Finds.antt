@@ -10,7 +10,7 @@ use Rattle.token.proofs.Pieces.{Way}
 
 -- what is found is written so
 pub found : {A : Type 0} (text : A → List ℕ) (xs : List A) (bytes : List ℕ) (x : A) → find text xs bytes ≡ Some x → bytes ≡ text x
-found text [] bytes x e = let z : ◌≡◌ {A = ℕ} 0 1 = cc in absurd (omega arith)
+found text [] bytes x e = absurd (cc)
 found {A} text (y ∷ ys) bytes x e = by (cases_Bool (bytes_eq bytes (text y))) (found text ys bytes x) e
   where
     by : Way (bytes_eq bytes (text y)) → (find text ys bytes ≡ Some x → bytes ≡ text x) → find text (y ∷ ys) bytes ≡ Some x → bytes ≡ text x
@@ -35,13 +35,12 @@ reserved_spelling Else = refl
 pub not_reserved : (bytes : List ℕ) → reserved bytes ≡ None → (k : Keyword) → bytes ≡ spelling k → ⊥
 not_reserved bytes e k h =
     let f : reserved bytes ≡ Some k = ap reserved h ∙ reserved_spelling k in
-    let z : ◌≡◌ {A = ℕ} 0 1 = cc in
-    omega arith
+    cc
 
 pub sign_of_characters : (s : Sign) (b : ℕ) → characters s ≡ b ∷ [] → sign_of b ≡ Some s
 sign_of_characters Semicolon b e = let f : b ≡ 59 = cc in rw f
 sign_of_characters Colon b e = let f : b ≡ 58 = cc in rw f
-sign_of_characters Becomes b e = let z : ◌≡◌ {A = ℕ} 0 1 = cc in absurd (omega arith)
+sign_of_characters Becomes b e = absurd (cc)
 sign_of_characters Plus b e = let f : b ≡ 43 = cc in rw f
 sign_of_characters Minus b e = let f : b ≡ 45 = cc in rw f
 sign_of_characters Times b e = let f : b ≡ 42 = cc in rw f
@@ -56,5 +55,4 @@ sign_of_characters Less b e = let f : b ≡ 60 = cc in rw f
 pub not_sign : (b : ℕ) → sign_of b ≡ None → (s : Sign) → characters s ≡ b ∷ [] → ⊥
 not_sign b e s h =
     let f = sign_of_characters s b h in
-    let z : ◌≡◌ {A = ℕ} 0 1 = cc in
-    omega arith
+    cc

@@ -43,7 +43,7 @@ becomes_here b [] is e f = absurd (false≢true f)
 becomes_here b (c ∷ bs) is e f =
     let p = eqb-true b 58 e in
     let q = eqb-true c 61 f in
-    record { is = is; room = omega arith; bytes = (λ i. p i ∷ q i ∷ []); proper = tt; whole = λ r. let z : ◌≡◌ {A = ℕ} 0 1 = cc in absurd (omega arith) }
+    record { is = is; room = omega arith; bytes = (λ i. p i ∷ q i ∷ []); proper = tt; whole = λ r. absurd (cc) }
 
 -- a byte that is no blank and starts no comment starts a token
 pub here : (b : ℕ) (bs : List ℕ) → blank b ≡ false → eqb b 37 ≡ false → (t : Token) × (more : ℕ) × Here b bs t more

@@ -54,18 +54,6 @@ module _ (xs : List ℕ) (i : ℕ) (s t : State) (low : i < length xs) (moved : 
         ap (λ u. final u (drop (i + 1) xs)) moved ∙ sym g.final_is ∙ ap (final s) (sym split),
       )
 
-  pub stays_at : inside s ≡ true → inside t ≡ false → (i ≡ i + width s (drop i xs)) × (s ≡ final s (drop i xs))
-  stays_at on out =
-      let g = stays s (get_or xs i 0) (drop (i + 1) xs) on (as_moved false out) in
-      let v : width s (drop i xs) ≡ width s (get_or xs i 0 ∷ drop (i + 1) xs) = ap (width s) split in
-      (omega (arith, g.width_is, v), sym (ap (final s) split ∙ g.final_is))
-
-pub ends_at : (xs : List ℕ) (i : ℕ) (s : State) → length xs ≤ i → inside s ≡ true → (i ≡ i + width s (drop i xs)) × (s ≡ final s (drop i xs))
-ends_at xs i s h on =
-    let g = stays_end s on in
-    let none = drop_all i xs h in
-    (omega (arith, g.width_is, ap (width s) none), sym (ap (final s) none ∙ g.final_is))
-
 pub over_at : (xs : List ℕ) (i : ℕ) (s : State) → length xs ≤ i → inside s ≡ false → from 0 i (drop i xs) ≡ along s i (drop i xs)
 over_at xs i s h out = let none = drop_all i xs h in ap (from 0 i) none ∙ sym (along_end s i) ∙ ap (along s i) (sym none)
 

@@ -11,7 +11,7 @@ returns-in_err-index-clause-told g c = λ seen address h short sound d.
     let w = g.N.Arithmetic.words in
     let f = c.in_err-index.field-0.0 in
     refusal_noted w t seen (mention number_use a.bytes.now a.place address) c.from_residual.result f (search rules)
-    (digits_told w a.table.now t a.bytes.now a.place c.short.result c.short-2.result (Err f) c.in_err-index.ensures.told c.short.ensures c.short-2.ensures seen address h short sound d)
+    (digits_told w a.table.now t a.bytes.now a.place c.spelling.result (Err f) c.in_err-index.ensures.told c.spelling.ensures.place c.spelling.ensures.length seen address h short sound d)
 
 pub returns-clause-told : goal.returns-clause-told
 returns-clause-told g c = λ seen address h short sound d.
@@ -20,6 +20,6 @@ returns-clause-told g c = λ seen address h short sound d.
     let w = g.N.Arithmetic.words in
     let i = c.in_ok-index.index in
     cell_noted w t seen (mention number_use a.bytes.now a.place address) i c.cell.result
-    (digits_told w a.table.now t a.bytes.now a.place c.short.result c.short-2.result (Ok i) c.in_ok-index.ensures.told c.short.ensures c.short-2.ensures seen address h short sound d)
+    (digits_told w a.table.now t a.bytes.now a.place c.spelling.result (Ok i) c.in_ok-index.ensures.told c.spelling.ensures.place c.spelling.ensures.length seen address h short sound d)
     refl
     c.cell.ensures
