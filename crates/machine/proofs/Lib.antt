@@ -1,4 +1,3 @@
-mod Arms
 mod Asked
 mod Fetched
 mod Others
