@@ -1,4 +1,3 @@
-mod Asked
 mod Fetched
 mod Others
 pub mod Turns

@@ -59,7 +59,8 @@ impl Registers {
         cells: &mut [i32],
         host: &mut H,
     )
-        requires { (self.old.address < 4096) × (inside 4096 (length cells.old) instruction ≡ true) }
+        requires address { self.old.address < 4096 }
+        requires inside { inside 4096 (length cells.old) instruction ≡ true }
         ensures state { whole self.new cells.new (H.Host.meaning host.new) ≡ carry_out (world N.Arithmetic.words H.Host.weight) instruction (whole self.old cells.old (H.Host.meaning host.old)) }
         ensures kept { H.Host.keeps host.old host.new }
     {
