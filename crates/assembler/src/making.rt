@@ -1,11 +1,12 @@
 // The assembler at work: words, expressions by two stacks, and the actions of the table.
 ghost use Rattle.std.specs.Prelude.{◌≡◌, ◌<◌, [], slice_set};
 ghost use Rattle.assembly.specs.Words.{packed};
-ghost use Rattle.assembly.specs.Plans.{words, work, planned, with_made, put_word, emit, emit_jump, land_at, operating as operating_on, reduces, operation, reduced, binding, operate, push_mark, push_cell, closed, loaded, end_expression, aside, branching as branching_to, begin_then, acted};
+ghost use Rattle.assembly.specs.Plans.{words, work, planned, with_made, put_word, emit, emit_jump, land_at, operating as operating_on, reduces, temporary, operation, reduced, binding, operate, push_mark, push_cell, closed, loaded, end_expression, aside, branching as branching_to, begin_then, acted};
+ghost use Rattle.assembler.specs.Jumps.{operation as jump_operation};
 ghost use Rattle.assembler.specs.Views.{plan, rooms, Keeps, waiting_operator, Applies};
 
 use crate::assembler::Assembler;
-use crate::word::{JUMP, JUMP_ZERO, instruction_word, pack};
+use crate::word::{Jump, instruction_word, jump_word};
 use assembly::mark::{Mark, Operator, Relation};
 use emission::action::Action;
 use runs::instruction::Instruction;
@@ -18,7 +19,8 @@ const ONE: u16 = 1;
 
 const FIRST_TEMPORARY: u16 = 2;
 
-// A word at an address, if the code reaches there.
+// A word at an address, if the code reaches there. By `get_mut` it has no proof: its contract does not say what a slice holds
+// after a write.
 fn write(code: &mut [u16], address: u16, word: u16)
     ensures { code.new ≡ slice_set code.old address word }
 {
@@ -49,24 +51,18 @@ fn branching(relation: Relation, address: u16) -> Instruction
     }
 }
 
-// Whether an operator that waits is reduced now: all are, or it binds as close as "*" and "/".
-fn is_reduced(operator: Operator, all: bool) -> bool
-    ensures { result ≡ reduces all operator }
-{
-    match operator {
-        Operator::Plus | Operator::Minus => all,
-        Operator::Times | Operator::Over => true,
-    }
-}
-
 // Whether an operator is "+" or "-", which all operators before it come before.
 fn is_sum(operator: Operator) -> bool
     ensures { result ≡ binding operator }
 {
-    match operator {
-        Operator::Plus | Operator::Minus => true,
-        Operator::Times | Operator::Over => false,
-    }
+    matches!(operator, Operator::Plus | Operator::Minus)
+}
+
+// Whether an operator that waits is reduced now: all are, or it binds as close as "*" and "/".
+fn is_reduced(operator: Operator, all: bool) -> bool
+    ensures { result ≡ reduces all operator }
+{
+    all || !is_sum(operator)
 }
 
 impl<'c, 'o, 'm> Assembler<'c, 'o, 'm> {
@@ -119,12 +115,11 @@ impl<'c, 'o, 'm> Assembler<'c, 'o, 'm> {
     }
 
     // One jump more to the label with this symbol.
-    fn emit_jump(&mut self, operation: u16, symbol: u16)
-        requires { operation < 16 }
-        ensures after { plan self.new ≡ emit_jump operation symbol (plan self.old) }
+    fn emit_jump(&mut self, jump: Jump, symbol: u16)
+        ensures after { plan self.new ≡ emit_jump (jump_operation jump) symbol (plan self.old) }
         ensures kept { Keeps self.old self.new }
     {
-        self.put(pack(operation, symbol));
+        self.put(jump_word(jump, symbol));
     }
 
     // The jump that stands before an address now leads to the next word.
@@ -154,6 +149,13 @@ impl<'c, 'o, 'm> Assembler<'c, 'o, 'm> {
         let _ = self.operators.push(mark);
     }
 
+    // The cell of the next temporary.
+    fn temporary(&self) -> u16
+        ensures { result ≡ temporary (plan self.now).making.temporaries }
+    {
+        self.temporaries.saturating_add(FIRST_TEMPORARY)
+    }
+
     // One operation: left and right by their cells, and the result into the next temporary, which waits as an operand.
     fn operation(&mut self, operator: Operator, left: u16, right: u16)
         ensures after { plan self.new ≡ with_made (operation operator left right (plan self.old).making.temporaries (plan self.old).made) (plan self.old) }
@@ -161,7 +163,7 @@ impl<'c, 'o, 'm> Assembler<'c, 'o, 'm> {
     {
         self.emit(Instruction::Lda(left));
         self.emit(operating(operator, right));
-        self.emit(Instruction::Sta(self.temporaries.saturating_add(FIRST_TEMPORARY)));
+        self.emit(Instruction::Sta(self.temporary()));
     }
 
     // Operators that wait on top are reduced, each to a temporary: all of them, or those that bind as close as "*" and "/".
@@ -169,11 +171,8 @@ impl<'c, 'o, 'm> Assembler<'c, 'o, 'm> {
         ensures after { plan self.new ≡ reduced all (plan self.old) }
         ensures kept { Keeps self.old self.new }
     {
-        'operators: loop {
-            match self.waiting(all) {
-                None => return,
-                Some(operator) => self.apply(operator),
-            }
+        'operators: while let Some(operator) = self.waiting(all) {
+            self.apply(operator);
         }
     }
 
@@ -184,19 +183,10 @@ impl<'c, 'o, 'm> Assembler<'c, 'o, 'm> {
         if self.operands.depth() < 2 {
             return None;
         }
-        match self.operators.top() {
-            Some(mark) => match mark {
-                Mark::Pending(operator) => {
-                    if is_reduced(operator, all) {
-                        Some(operator)
-                    } else {
-                        None
-                    }
-                }
-                _ => None,
-            },
-            None => None,
-        }
+        let Some(Mark::Pending(operator)) = self.operators.top() else {
+            return None;
+        };
+        is_reduced(operator, all).then_some(operator)
     }
 
     // The operator on top is applied to the two operands on top.
@@ -205,16 +195,13 @@ impl<'c, 'o, 'm> Assembler<'c, 'o, 'm> {
         ensures kept { Keeps self.old self.new }
     {
         let _ = self.operators.pop();
-        let right = self.operands.pop();
-        let left = self.operands.pop();
-        match (left, right) {
-            (Some(left), Some(right)) => {
-                self.operation(operator, left, right);
-                self.push_operand(self.temporaries.saturating_add(FIRST_TEMPORARY));
-                self.temporaries = self.temporaries.saturating_add(1);
-            }
-            _ => {}
-        }
+        let (Some(right), Some(left)) = (self.operands.pop(), self.operands.pop()) else {
+            return;
+        };
+        let temporary = self.temporary();
+        self.operation(operator, left, right);
+        self.push_operand(temporary);
+        self.temporaries = self.temporaries.saturating_add(1);
     }
 
     // An operator comes behind an operand: what binds as close before it, or closer, is reduced first.
@@ -231,14 +218,8 @@ impl<'c, 'o, 'm> Assembler<'c, 'o, 'm> {
         ensures after { plan self.new ≡ closed (plan self.old) }
         ensures kept { Keeps self.old self.new }
     {
-        match self.operators.top() {
-            Some(mark) => match mark {
-                Mark::Open => {
-                    let _ = self.operators.pop();
-                }
-                _ => {}
-            },
-            None => {}
+        if self.operators.top() == Some(Mark::Open) {
+            let _ = self.operators.pop();
         }
     }
 
@@ -262,9 +243,8 @@ impl<'c, 'o, 'm> Assembler<'c, 'o, 'm> {
         ensures after { plan self.new ≡ with_made (loaded (plan self.old).making.cells 0 (plan self.old).made) (plan self.old) }
         ensures kept { Keeps self.old self.new }
     {
-        match self.operands.top() {
-            Some(cell) => self.emit(Instruction::Lda(cell)),
-            None => {}
+        if let Some(cell) = self.operands.top() {
+            self.emit(Instruction::Lda(cell));
         }
     }
 
@@ -303,17 +283,17 @@ impl<'c, 'o, 'm> Assembler<'c, 'o, 'm> {
             }
             Action::KeepName => self.kept = reference,
             Action::JumpToName => {
-                self.emit_jump(JUMP, self.kept);
+                self.emit_jump(Jump::Always, self.kept);
                 self.kept = 0;
             }
             Action::LoadName => {
                 self.emit(Instruction::Lda(self.kept));
                 self.kept = 0;
             }
-            Action::FirstLabel => self.emit_jump(JUMP_ZERO, reference),
+            Action::FirstLabel => self.emit_jump(Jump::IfZero, reference),
             Action::FurtherLabel => {
                 self.emit(Instruction::Sub(ONE));
-                self.emit_jump(JUMP_ZERO, reference);
+                self.emit_jump(Jump::IfZero, reference);
             }
             Action::ReadName => {
                 self.emit(Instruction::Read);

@@ -8,8 +8,6 @@ ghost use Rattle.assembly.specs.Laws.{Acts};
 pub mod mark;
 
 // An action on a plan that is drawn from a draft makes the plan that is drawn from the draft after the action.
-pub fn plans_follow_drafts() -> u8
+pub fn plans_follow_drafts()
     ensures { Acts }
-{
-    0
-}
+{}

@@ -10,7 +10,7 @@ pub enum Operator {
 }
 
 // An entry of the operator stack: an open parenthesis, or an operator that waits for its right side. Memory that holds
-// neither is blank.
+// neither is blank: the caller lends it, and it holds marks before any is put there.
 #[derive(Clone, Copy, PartialEq, Eq, Debug)]
 pub enum Mark {
     Blank,

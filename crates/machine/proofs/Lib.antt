@@ -1,5 +1,3 @@
-mod Arms
-mod Asked
 mod Fetched
 mod Others
 pub mod Turns

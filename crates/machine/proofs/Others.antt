@@ -1,5 +1,5 @@
 -- A run changes no cell beyond those in use.
-use Rattle.std.proofs.Common.{◌≡◌, ℕ, zero, suc, ◌<◌, Bool, true, false, List, length, drop, ℤ, Some, None, Option, refl, ◌∙◌, arith}
+use Rattle.std.proofs.Common.{◌≡◌, ℕ, zero, suc, ◌<◌, Bool, true, false, List, length, drop, ℤ, Some, None, Option, refl, ap, ◌∙◌, arith}
 use Rattle.std.proofs.lemmas.List.{drop-set-lt}
 use Rattle.std.proofs.lemmas.Bool.Decides.{nat_tests}
 use Rattle.host.specs.Meaning.{first, fits}
@@ -46,8 +46,11 @@ module _ (W : World) (size used : ℕ) where
   move_keeps NoPaper o m h = refl
   move_keeps (Corrupt a) o m h = refl
 
-pub run_keeps : (W : World) (code : List ℕ) (used n : ℕ) (m : State) → drop used (run W code used n m).cells ≡ drop used m.cells
+run_keeps : (W : World) (code : List ℕ) (used n : ℕ) (m : State) → drop used (run W code used n m).cells ≡ drop used m.cells
 run_keeps W code used zero m = refl
 run_keeps W code used (suc n) m =
     run_keeps W code used n (step W code used m) ∙
     move_keeps W (length code) used m.status (fetch code used m.address) m (λ i e. fetch_inside code used m.address i e)
+
+pub kept_beyond : (W : World) (code : List ℕ) (used n : ℕ) (m v : State) → v ≡ run W code used n m → drop used v.cells ≡ drop used m.cells
+kept_beyond W code used n m v e = ap (λ (s : State). drop used s.cells) e ∙ run_keeps W code used n m

@@ -79,7 +79,7 @@ module _ (W : World) where
         e ∙ sym (run_closed (b - (d + 1)) (step W code used m) (uncounted m.status (fetch code used m.address) m refl c)) ∙
         ap (run W code used (b - (d + 1))) (sym e) ∙ on_run b d m v h e
 
-    pub off_count : (b d : ℕ) (m v : State) → d < b → v ≡ step W code used m → 0 ≡ counted m.status (fetch code used m.address) → count W code used (b - d) m ≡ 0
+    pub off_count : (b d : ℕ) (m v : State) → d < b → v ≡ step W code used m → 0 ≡ counted m.status (fetch code used m.address) → d ≡ d + count W code used (b - d) m
     off_count b d m v h e c =
         let p : b - d ≡ suc (b - (d + 1)) = omega arith in
         let q = ap (λ n. count W code used n m) p in

@@ -2,5 +2,6 @@
 // It is held, step by step, to the machine that the crate `runs` defines. It knows nothing of texts, trees or symbols.
 #![tactic(auto)]
 
+mod program;
 pub mod registers;
 pub mod word;

@@ -1,9 +1,41 @@
 // Words of code: taken apart, made, and held against the size of the code and the cells in use.
-ghost use Rattle.std.specs.Prelude.{◌≡◌, ◌/◌, ◌%◌, ◌<◌};
-ghost use Rattle.runs.specs.Machine.{decode as decoded, asked as asks};
-ghost use Rattle.machine.specs.Packing.{packed, encoded, choices};
+ghost use Rattle.std.specs.Prelude.{◌≡◌, ◌+◌, ◌*◌, ◌/◌, ◌%◌, ◌<◌, ◌≤◌};
+ghost use Rattle.runs.specs.Machine.{opcode, operand, called, inside, decode as decoded, asked as asks};
+ghost use Rattle.machine.specs.Packing.{encoded};
 
 use runs::instruction::Instruction;
+
+// The numbers of the operations, and what operation 10 calls by its operand. They are constants and no enum, since a word holds
+// numbers: from a number to an enum's variant there would be one match more.
+const BRU: u16 = 0;
+
+const BRZ: u16 = 1;
+
+const BRN: u16 = 2;
+
+const BRP: u16 = 3;
+
+const ADA: u16 = 4;
+
+const SUB: u16 = 5;
+
+const MUL: u16 = 6;
+
+const DIV: u16 = 7;
+
+const LDA: u16 = 8;
+
+const STA: u16 = 9;
+
+const CALL: u16 = 10;
+
+const READ: u16 = 0;
+
+const CONVERT: u16 = 1;
+
+const NEWLINE: u16 = 2;
+
+const STOP: u16 = 3;
 
 // An operand has 12 bits.
 const OPERANDS: u16 = 4_096;
@@ -14,21 +46,42 @@ fn operation(word: u16) -> u16
     word >> 12
 }
 
-fn operand(word: u16) -> u16
+// The low 12 bits.
+fn low(word: u16) -> u16
     ensures { result ≡ word % 4096 }
 {
     word & 0xfff
 }
 
-// An operation and an operand in one word, or `None` where the operand has more than 12 bits.
-fn pack(operation: u16, operand: u16) -> Option<u16>
+// An operation and the low 12 bits of an operand in one word.
+pub fn pack(operation: u16, operand: u16) -> u16
     requires { operation < 16 }
-    ensures { result ≡ packed operation operand }
+    ensures { result ≡ operation * 4096 + operand % 4096 }
 {
-    if operand < OPERANDS {
-        Some(operation << 12 | operand)
-    } else {
-        None
+    operation << 12 | low(operand)
+}
+
+// An instruction's operation and operand.
+pub fn parts(instruction: Instruction) -> (u16, u16)
+    ensures operation { result.0 ≡ opcode instruction }
+    ensures operand { result.1 ≡ operand instruction }
+    ensures small { result.0 ≤ 10 }
+{
+    match instruction {
+        Instruction::Bru(a) => (BRU, a),
+        Instruction::Brz(a) => (BRZ, a),
+        Instruction::Brn(a) => (BRN, a),
+        Instruction::Brp(a) => (BRP, a),
+        Instruction::Ada(a) => (ADA, a),
+        Instruction::Sub(a) => (SUB, a),
+        Instruction::Mul(a) => (MUL, a),
+        Instruction::Div(a) => (DIV, a),
+        Instruction::Lda(a) => (LDA, a),
+        Instruction::Sta(a) => (STA, a),
+        Instruction::Read => (CALL, READ),
+        Instruction::Convert => (CALL, CONVERT),
+        Instruction::Newline => (CALL, NEWLINE),
+        Instruction::Stop => (CALL, STOP),
     }
 }
 
@@ -36,61 +89,59 @@ fn pack(operation: u16, operand: u16) -> Option<u16>
 pub fn encode(instruction: Instruction) -> Option<u16>
     ensures { result ≡ encoded instruction }
 {
-    match instruction {
-        Instruction::Bru(a) => pack(0, a),
-        Instruction::Brz(a) => pack(1, a),
-        Instruction::Brn(a) => pack(2, a),
-        Instruction::Brp(a) => pack(3, a),
-        Instruction::Ada(a) => pack(4, a),
-        Instruction::Sub(a) => pack(5, a),
-        Instruction::Mul(a) => pack(6, a),
-        Instruction::Div(a) => pack(7, a),
-        Instruction::Lda(a) => pack(8, a),
-        Instruction::Sta(a) => pack(9, a),
-        Instruction::Read => pack(10, 0),
-        Instruction::Convert => pack(10, 1),
-        Instruction::Newline => pack(10, 2),
-        Instruction::Stop => pack(10, 3),
-    }
+    let (operation, operand) = parts(instruction);
+    (operand < OPERANDS).then(|| pack(operation, operand))
 }
 
 // What a word means, or `None` where it means nothing: an operation above 10, or a call above 3.
 pub fn decode(word: u16) -> Option<Instruction>
     ensures { result ≡ decoded word }
 {
-    let a = operand(word);
-    match operation(word) {
-        0 => Some(Instruction::Bru(a)),
-        1 => Some(Instruction::Brz(a)),
-        2 => Some(Instruction::Brn(a)),
-        3 => Some(Instruction::Brp(a)),
-        4 => Some(Instruction::Ada(a)),
-        5 => Some(Instruction::Sub(a)),
-        6 => Some(Instruction::Mul(a)),
-        7 => Some(Instruction::Div(a)),
-        8 => Some(Instruction::Lda(a)),
-        9 => Some(Instruction::Sta(a)),
-        10 => match a {
-            0 => Some(Instruction::Read),
-            1 => Some(Instruction::Convert),
-            2 => Some(Instruction::Newline),
-            3 => Some(Instruction::Stop),
-            _ => None,
-        },
+    let a = low(word);
+    let instruction = match operation(word) {
+        BRU => Instruction::Bru(a),
+        BRZ => Instruction::Brz(a),
+        BRN => Instruction::Brn(a),
+        BRP => Instruction::Brp(a),
+        ADA => Instruction::Ada(a),
+        SUB => Instruction::Sub(a),
+        MUL => Instruction::Mul(a),
+        DIV => Instruction::Div(a),
+        LDA => Instruction::Lda(a),
+        STA => Instruction::Sta(a),
+        CALL => called(a)?,
+        _ => return None,
+    };
+    Some(instruction)
+}
+
+// What operation 10 calls.
+fn called(operand: u16) -> Option<Instruction>
+    ensures { result ≡ called «operand» }
+{
+    match operand {
+        READ => Some(Instruction::Read),
+        CONVERT => Some(Instruction::Convert),
+        NEWLINE => Some(Instruction::Newline),
+        STOP => Some(Instruction::Stop),
         _ => None,
     }
 }
 
-// How many operands an operation has, in a code of this size with so many cells in use: a jump leads into the code, a cell is
-// in use, there are four calls, and no operation is above 10.
-fn operands(operation: u16, size: usize, used: usize) -> usize
-    ensures { result ≡ choices size used operation }
+// Whether a jump leads into a code of this size, or a cell is among so many in use.
+fn is_inside(instruction: Instruction, size: usize, used: usize) -> bool
+    ensures { result ≡ inside size used instruction }
 {
-    match operation {
-        0..=3 => size,
-        4..=9 => used,
-        10 => 4,
-        _ => 0,
+    match instruction {
+        Instruction::Bru(a) | Instruction::Brz(a) | Instruction::Brn(a) | Instruction::Brp(a) =>
+            usize::from(a) < size,
+        Instruction::Ada(a)
+        | Instruction::Sub(a)
+        | Instruction::Mul(a)
+        | Instruction::Div(a)
+        | Instruction::Lda(a)
+        | Instruction::Sta(a) => usize::from(a) < used,
+        Instruction::Read | Instruction::Convert | Instruction::Newline | Instruction::Stop => true,
     }
 }
 
@@ -99,9 +150,5 @@ fn operands(operation: u16, size: usize, used: usize) -> usize
 pub fn asked(word: u16, size: usize, used: usize) -> Option<Instruction>
     ensures { result ≡ asks size used word }
 {
-    if (operand(word) as usize) < operands(operation(word), size, used) {
-        decode(word)
-    } else {
-        None
-    }
+    decode(word).filter(|instruction| is_inside(*instruction, size, used))
 }

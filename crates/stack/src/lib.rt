@@ -1,12 +1,16 @@
 // One stack for every kind of entry, over memory that the caller lends. It knows nothing of what it holds.
 #![tactic(auto)]
 
-ghost use Rattle.std.specs.Prelude.{◌≡◌, ℕ, ◌+◌, ◌-◌, ◌<◌, ◌≤◌, Bool, true, false, List, [], ◌∷◌, length, if◌then◌else◌, MatchOption, nat_lt};
+ghost use Rattle.std.specs.Prelude.{◌≡◌, ℕ, ◌+◌, ◌-◌, ◌<◌, ◌≤◌, Bool, true, false, List, [], ◌∷◌, length, if◌then◌else◌, MatchOption, nat_lt, is_ok};
 ghost use Rattle.stack.specs.Entries.{entries, room, Keeps};
 
 pub mod stack;
 
 use stack::Stack;
+
+// The answer of a stack that has no room for an entry.
+#[derive(Clone, Copy, PartialEq, Eq, Debug)]
+pub struct Full;
 
 impl<'a, T: Copy> Stack<'a, T> {
     // An empty stack with room for as many entries as the slice has.
@@ -17,18 +21,18 @@ impl<'a, T: Copy> Stack<'a, T> {
         Stack { items, len: 0 }
     }
 
-    // Puts an entry on top; answers whether there was room for it, and else nothing changes.
-    pub fn push(&mut self, entry: T) -> bool
-        ensures fits { result ≡ nat_lt (length (entries self.old)) (room self.old) }
-        ensures after { entries self.new ≡ (if result then «entry» ∷ entries self.old else entries self.old) }
+    // Puts an entry on top, or refuses where there is no room for it, and then nothing changes.
+    pub fn push(&mut self, entry: T) -> Result<(), Full>
+        ensures fits { is_ok result ≡ nat_lt (length (entries self.old)) (room self.old) }
+        ensures after { entries self.new ≡ (if is_ok result then «entry» ∷ entries self.old else entries self.old) }
         ensures kept { Keeps self.old self.new }
     {
         if self.len >= self.items.len() {
-            return false;
+            return Err(Full);
         }
         self.items[self.len] = entry;
         self.len += 1;
-        true
+        Ok(())
     }
 
     // Takes the top entry off; `None` where there is none, and then nothing changes.
@@ -36,10 +40,7 @@ impl<'a, T: Copy> Stack<'a, T> {
         ensures cases { MatchOption result ((entries self.old ≡ []) × (entries self.new ≡ [])) (λ x. entries self.old ≡ x ∷ entries self.new) }
         ensures kept { Keeps self.old self.new }
     {
-        if self.len == 0 {
-            return None;
-        }
-        self.len -= 1;
+        self.len = self.len.checked_sub(1)?;
         Some(self.items[self.len])
     }
 
@@ -47,11 +48,7 @@ impl<'a, T: Copy> Stack<'a, T> {
     pub fn top(&self) -> Option<T>
         ensures { MatchOption result (entries self.now ≡ []) (λ x. (rest : List T) × (entries self.now ≡ x ∷ rest)) }
     {
-        if self.len == 0 {
-            return None;
-        }
-        let items: &[T] = self.items;
-        Some(items[self.len - 1])
+        self.items[..self.len].last().copied()
     }
 
     // Takes all entries off.

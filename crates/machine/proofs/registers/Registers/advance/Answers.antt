@@ -1,35 +1,26 @@
 use Rattle.std.proofs.Common.{◌<◌, ◌∙◌, arith}
 use Rattle.runs.specs.Events.{world}
-use Rattle.machine.specs.States.{whole}
 use Rattle.machine.proofs.Turns.{on_run, on_count, off_run, off_count}
 use Rattle.machine.proofs.registers.Registers.advance.Goals as goal
 
-pub returns-then-not-step : goal.returns-then-not-step
-returns-then-not-step g c =
+pub returns-then-not-step-clause-state : goal.returns-then-not-step-clause-state
+returns-then-not-step-clause-state g c =
     let W = world g.N.Arithmetic.words g.H.Host.weight in
-    let b = c.args.budget in
-    let d = c.loop-done.done in
-    let here = whole c.loop-done.self c.loop-done.cells (g.H.Host.meaning c.loop-done.host) in
-    let there = whole c.step.new.self c.step.new.cells (g.H.Host.meaning c.step.new.host) in
-    let more : d < b = omega arith in
-    let none = off_count W c.args.code.now c.args.used b d here there more c.step.ensures.state c.if-not-step.ensures.count in
-    let all = c.loop-done.invariant.3 in
-    record {
-      state = off_run W c.args.code.now c.args.used b d here there more c.step.ensures.state c.if-not-step.ensures.count ∙ c.loop-done.invariant.2;
-      count = omega (arith, none, all);
-      kept = g.met.H.Host.along _ _ _ c.loop-done.invariant.1 c.step.ensures.kept;
-    }
+    let more : c.loop-done.done < c.args.budget = omega arith in
+    off_run W _ _ _ _ _ _ more c.step.ensures.state c.if-not-step.ensures.count ∙ c.loop-done.invariant.ends
+
+pub returns-then-not-step-clause-count : goal.returns-then-not-step-clause-count
+returns-then-not-step-clause-count g c =
+    let W = world g.N.Arithmetic.words g.H.Host.weight in
+    let more : c.loop-done.done < c.args.budget = omega arith in
+    off_count W _ _ _ _ _ _ more c.step.ensures.state c.if-not-step.ensures.count ∙ c.loop-done.invariant.counts
 
 pub loop-done-preserved : goal.loop-done-preserved
 loop-done-preserved g c =
     let W = world g.N.Arithmetic.words g.H.Host.weight in
-    let b = c.args.budget in
-    let d = c.loop-done.done in
-    let here = whole c.loop-done.self c.loop-done.cells (g.H.Host.meaning c.loop-done.host) in
-    let there = whole c.step.new.self c.step.new.cells (g.H.Host.meaning c.step.new.host) in
-    let more : d < b = omega arith in (
-      omega (arith, more),
-      g.met.H.Host.along _ _ _ c.loop-done.invariant.1 c.step.ensures.kept,
-      on_run W c.args.code.now c.args.used b d here there more c.step.ensures.state ∙ c.loop-done.invariant.2,
-      on_count W c.args.code.now c.args.used b d here there more c.step.ensures.state c.if-not-step.ensures.count ∙ c.loop-done.invariant.3,
-    )
+    let more : c.loop-done.done < c.args.budget = omega arith in
+    record {
+      kept = g.met.H.Host.along _ _ _ c.loop-done.invariant.kept c.step.ensures.kept;
+      ends = on_run W _ _ _ _ _ _ more c.step.ensures.state ∙ c.loop-done.invariant.ends;
+      counts = on_count W _ _ _ _ _ _ more c.step.ensures.state c.if-not-step.ensures.count ∙ c.loop-done.invariant.counts;
+    }

@@ -1,4 +1,4 @@
-use Rattle.std.proofs.Common.{◌≡◌, ◌+◌, ◌-◌, ◌≤◌}
+use Rattle.std.proofs.Common.{◌≡◌, ◌+◌, ◌-◌}
 use Rattle.runs.specs.Events.{world}
 use Rattle.runs.specs.Machine.{run, count}
 use Rattle.machine.specs.States.{whole}
@@ -10,9 +10,8 @@ invariant-loop-done g l =
     let W = world g.N.Arithmetic.words g.H.Host.weight in
     let start = whole l.initial.self l.initial.cells (g.H.Host.meaning l.initial.host) in
     let here = whole l.self l.cells (g.H.Host.meaning l.host) in
-    (l.done ≤ l.budget) × (g.H.Host.keeps l.initial.host l.host) ×
-    (run W l.code l.used (l.budget - l.done) here ≡ run W l.code l.used l.budget start) ×
-    (l.done + count W l.code l.used (l.budget - l.done) here ≡ count W l.code l.used l.budget start)
-
-abbrev pub decreases-loop-done : goal.decreases-loop-done
-decreases-loop-done g l = l.budget - l.done
+    record {
+      kept : g.H.Host.keeps l.initial.host l.host;
+      ends : run W l.program.code.now l.program.used (l.budget - l.done) here ≡ run W l.program.code.now l.program.used l.budget start;
+      counts : l.done + count W l.program.code.now l.program.used (l.budget - l.done) here ≡ count W l.program.code.now l.program.used l.budget start;
+    }
