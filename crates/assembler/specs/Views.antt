@@ -1,7 +1,7 @@
 -- What an assembler holds, as a plan, and what calls keep of the memory that it is lent.
 use Rattle.std.specs.Prelude.{◌≡◌, ℕ, Bool, cond, List, [], ◌∷◌, length, Some, None, Option}
 use Rattle.stack.specs.Entries.{entries, room}
-use Rattle.assembly.specs.declared.mark.Operator.{Operator}
+use Rattle.trees.specs.declared.operator.Operator.{Operator}
 use Rattle.assembly.specs.declared.mark.Mark.{Mark}
 use Rattle.assembly.specs.declared.mark.Mark.TheVariants.{Blank, Open, Pending}
 use Rattle.assembly.specs.Plans.{Plan, Rooms, words, work, planned, plus, reduces, temporary, operation}

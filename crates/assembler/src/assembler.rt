@@ -1,6 +1,7 @@
 // The assembler and what it holds.
-use assembly::mark::{Mark, Relation};
+use assembly::mark::Mark;
 use stack::stack::Stack;
+use trees::relation::Relation;
 
 // A code in the making. `count` is the number of its words, and stays at 65,535 once it is there; words past the end of the
 // code are counted and not written. Operands wait by their cells. `temporaries` counts the temporaries that the expression

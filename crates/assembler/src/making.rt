@@ -1,16 +1,19 @@
 // The assembler at work: words, expressions by two stacks, and the actions of the table.
 ghost use Rattle.std.specs.Prelude.{◌≡◌, ◌<◌, [], slice_set};
+ghost use Rattle.runs.specs.Code.{operating as operating_on, branching as branching_to};
 ghost use Rattle.assembly.specs.Words.{packed};
-ghost use Rattle.assembly.specs.Plans.{words, work, planned, with_made, put_word, emit, emit_jump, land_at, operating as operating_on, reduces, temporary, operation, reduced, binding, operate, push_mark, push_cell, closed, loaded, end_expression, aside, branching as branching_to, begin_then, acted};
+ghost use Rattle.assembly.specs.Plans.{words, work, planned, with_made, put_word, emit, emit_jump, land_at, reduces, temporary, operation, reduced, binding, operate, push_mark, push_cell, closed, loaded, end_expression, aside, begin_then, acted};
 ghost use Rattle.assembler.specs.Jumps.{operation as jump_operation};
 ghost use Rattle.assembler.specs.Views.{plan, rooms, Keeps, waiting_operator, Applies};
 
 use crate::assembler::Assembler;
 use crate::word::{Jump, instruction_word, jump_word};
-use assembly::mark::{Mark, Operator, Relation};
+use assembly::mark::Mark;
 use emission::action::Action;
 use runs::instruction::Instruction;
 use stack::stack::Stack;
+use trees::operator::Operator;
+use trees::relation::Relation;
 
 // The cells with a purpose of their own: #TEMP, #ONE, and the first of the temporaries.
 const TEMP: u16 = 0;
@@ -308,17 +311,12 @@ impl<'c, 'o, 'm> Assembler<'c, 'o, 'm> {
             Action::PushVariable | Action::PushNumber => self.push_operand(reference),
             Action::OpenGroup => self.push_mark(Mark::Open),
             Action::CloseGroup => self.close_group(),
-            Action::Plus => self.operate(Operator::Plus),
-            Action::Minus => self.operate(Operator::Minus),
-            Action::Times => self.operate(Operator::Times),
-            Action::Over => self.operate(Operator::Over),
+            Action::Operate(operator) => self.operate(operator),
             Action::EndExpression => {
                 self.reduce(true);
                 self.end_expression();
             }
-            Action::Greater => self.put_aside(Relation::Greater),
-            Action::Equal => self.put_aside(Relation::Equal),
-            Action::Less => self.put_aside(Relation::Less),
+            Action::Compare(relation) => self.put_aside(relation),
             Action::BeginThen => self.begin_then(),
             Action::BeginElse => {
                 self.emit(Instruction::Bru(0));

@@ -1,6 +1,9 @@
 -- Each action on a plan and on the draft that it is drawn from.
 use Rattle.std.proofs.Common.{◌≡◌, ℕ, suc, ◌+◌, ◌<◌, min, Bool, true, false, List, [], ◌∷◌, map, length, sym, refl, ap, ◌∙◌, subst, arith}
-use Rattle.trees.specs.Trees as trees
+use Rattle.trees.specs.declared.operator.Operator.{Operator}
+use Rattle.trees.specs.declared.operator.Operator.TheVariants.{Plus, Minus, Times, Over}
+use Rattle.trees.specs.declared.relation.Relation.{Relation}
+use Rattle.trees.specs.declared.relation.Relation.TheVariants.{Greater}
 use Rattle.trees.specs.Trees.{Name}
 use Rattle.runs.specs.declared.instruction.Instruction.{Instruction}
 use Rattle.runs.specs.declared.instruction.Instruction.TheVariants.{Bru, Lda, Sta, Sub, Read, Convert, Newline, Stop}
@@ -14,32 +17,27 @@ use Rattle.assembly.specs.declared.mark.Mark.{Mark}
 use Rattle.assembly.specs.Words.{packed, instruction_word, jump_operation, jump_zero_operation}
 use Rattle.assembly.specs.Plans as plans
 use Rattle.assembly.specs.Plans.{Words, Work, Plan, planned, put_word}
-use Rattle.assembly.specs.Drawn.{operator_code, mark_code, relation_code, coded, Written, Drawn, Few}
+use Rattle.assembly.specs.Drawn.{mark_code, coded, Written, Drawn, Few}
 use Rattle.assembly.specs.Laws.{Acts}
 use Rattle.assembly.proofs.Writing.{one_more, landed}
 use Rattle.assembly.proofs.Reducing.{Works, reduced_works, marked_works, operand_works, closed_works, loaded_written}
 
-same_branching : (r : trees.Relation) (a : ℕ) → plans.branching (relation_code r) a ≡ code.branching r a
-same_branching trees.greater a = refl
-same_branching trees.equal a = refl
-same_branching trees.less a = refl
-
 -- + and - reduce all before them, * and / what binds as close
-any_reduces : (o : trees.Operator) → draft.any o ≡ plans.reduces true (operator_code o)
-any_reduces trees.plus = refl
-any_reduces trees.minus = refl
-any_reduces trees.times = refl
-any_reduces trees.over = refl
+any_reduces : (o : Operator) → draft.any o ≡ plans.reduces true o
+any_reduces Plus = refl
+any_reduces Minus = refl
+any_reduces Times = refl
+any_reduces Over = refl
 
-binds_reduces : (o : trees.Operator) → draft.binds o ≡ plans.reduces false (operator_code o)
-binds_reduces trees.plus = refl
-binds_reduces trees.minus = refl
-binds_reduces trees.times = refl
-binds_reduces trees.over = refl
+binds_reduces : (o : Operator) → draft.binds o ≡ plans.reduces false o
+binds_reduces Plus = refl
+binds_reduces Minus = refl
+binds_reduces Times = refl
+binds_reduces Over = refl
 
 module _ (number : Name → ℕ) where
   -- a plan is drawn from a draft by the two works and by what both keep between two tokens
-  drawn : {d : Draft} {p : Plan} → Works number d.making p.making p.made → p.target ≡ d.target → p.relation ≡ relation_code d.relation →
+  drawn : {d : Draft} {p : Plan} → Works number d.making p.making p.made → p.target ≡ d.target → p.relation ≡ d.relation →
       Drawn number d p
   drawn w t r = record { words = w.words; marks = w.marks; cells = w.cells; temporaries = w.temporaries; target = t; relation = r }
 
@@ -74,7 +72,7 @@ module _ (number : Name → ℕ) {d : Draft} {p : Plan} (h : Drawn number d p) w
   pub targeted : (t u : ℕ) → u ≡ t → Drawn number (actions.with_target t d) (plans.with_target u p)
   targeted t u e = drawn number the_work e h.relation
 
-  pub related : (r : trees.Relation) → Drawn number (actions.with_relation r d) (plans.with_relation (relation_code r) p)
+  pub related : (r : Relation) → Drawn number (actions.with_relation r d) (plans.with_relation r p)
   related r = drawn number the_work h.target refl
 
   -- the name that is kept and the labels are not in a plan
@@ -93,16 +91,16 @@ module _ (number : Name → ℕ) {d : Draft} {p : Plan} (h : Drawn number d p) w
   marked m q room = worked (marked_works number m q d.making p.making p.made room the_work)
 
   -- the operators on top that pass a test are reduced
-  reduced : (test : trees.Operator → Bool) (all : Bool) → ((x : trees.Operator) → test x ≡ plans.reduces all (operator_code x)) → Few d →
+  reduced : (test : Operator → Bool) (all : Bool) → ((x : Operator) → test x ≡ plans.reduces all x) → Few d →
       Drawn number (draft.with_work (draft.reduced test d.making) d) (plans.reduced all p)
   reduced test all same few = worked (reduced_works number test all same d.making p.making p.made few the_work)
 
   -- the jump to the THEN part
   branches : suc (here d) < code_limit →
-      instruction_word (plans.branching p.relation (plans.plus p.made.count 3)) ≡ instruction_word (code.branching d.relation (3 + here d))
+      instruction_word (code.branching p.relation (plans.plus p.made.count 3)) ≡ instruction_word (code.branching d.relation (3 + here d))
   branches room =
       let n : plans.plus p.made.count 3 ≡ 3 + here d = omega (arith, h.words.count) in
-      ap instruction_word ((λ i. plans.branching (h.relation i) (n i)) ∙ same_branching d.relation (3 + here d))
+      ap instruction_word (λ i. code.branching (h.relation i) (n i))
 
   -- the end of an expression whose operators are reduced
   ended : Drawn number (draft.with_work (draft.ended d.making) d) (plans.end_expression p)
@@ -146,20 +144,18 @@ acts y number q action.PushVariable a n r d p h e few fits = pushed number h q.c
 acts y number q action.PushNumber a n r d p h e few fits = pushed number h q.cells (y.literal_cell n) r e fits.cells
 acts y number q action.OpenGroup a n r d p h e few fits = marked number h parenthesis q.marks fits.marks
 acts y number q action.CloseGroup a n r d p h e few fits = worked number h (closed_works number d.making p.making p.made (the_work number h))
-acts y number q action.Plus a n r d p h e few fits =
-    marked number (reduced number h draft.any true any_reduces few) (pending trees.plus) q.marks fits.marks
-acts y number q action.Minus a n r d p h e few fits =
-    marked number (reduced number h draft.any true any_reduces few) (pending trees.minus) q.marks fits.marks
-acts y number q action.Times a n r d p h e few fits =
-    marked number (reduced number h draft.binds false binds_reduces few) (pending trees.times) q.marks fits.marks
-acts y number q action.Over a n r d p h e few fits =
-    marked number (reduced number h draft.binds false binds_reduces few) (pending trees.over) q.marks fits.marks
+acts y number q (action.Operate Plus) a n r d p h e few fits =
+    marked number (reduced number h draft.any true any_reduces few) (pending Plus) q.marks fits.marks
+acts y number q (action.Operate Minus) a n r d p h e few fits =
+    marked number (reduced number h draft.any true any_reduces few) (pending Minus) q.marks fits.marks
+acts y number q (action.Operate Times) a n r d p h e few fits =
+    marked number (reduced number h draft.binds false binds_reduces few) (pending Times) q.marks fits.marks
+acts y number q (action.Operate Over) a n r d p h e few fits =
+    marked number (reduced number h draft.binds false binds_reduces few) (pending Over) q.marks fits.marks
 acts y number q action.EndExpression a n r d p h e few fits = ended number (reduced number h draft.any true any_reduces few)
-acts y number q action.Greater a n r d p h e few fits = related number (put number h (Sta 0)) trees.greater
-acts y number q action.Equal a n r d p h e few fits = related number (put number h (Sta 0)) trees.equal
-acts y number q action.Less a n r d p h e few fits = related number (put number h (Sta 0)) trees.less
+acts y number q (action.Compare x) a n r d p h e few fits = related number (put number h (Sta 0)) x
 acts y number q action.BeginThen a n r d p h e few fits =
-    related number (put number (emitted number (put number h (Sub 0)) (fixed (code.branching d.relation (3 + here d))) _ (branches number h)) (Bru 0)) trees.greater
+    related number (put number (emitted number (put number h (Sub 0)) (fixed (code.branching d.relation (3 + here d))) _ (branches number h)) (Bru 0)) Greater
 acts y number q action.BeginElse a n r d p h e few fits = landed_at number (put number h (Bru 0)) a
 acts y number q action.EndElse a n r d p h e few fits = landed_at number h a
 acts y number q action.EndProgram a n r d p h e few fits = put number h Stop

@@ -2,15 +2,15 @@
 use Rattle.std.proofs.Common.{◌≡◌, ℕ, zero, suc, ◌+◌, ◌<◌, ◌≤◌, min, Bool, true, false, cond, List, [], ◌∷◌, map, length, refl, ap, ◌∙◌, arith}
 use Rattle.std.proofs.lemmas.Bool.Decides.{nat_tests}
 use lib.ListN.{length-map}
-use Rattle.trees.specs.Trees as trees
+use Rattle.trees.specs.declared.operator.Operator.{Operator}
 use Rattle.trees.specs.Trees.{Name}
 use Rattle.runs.specs.declared.instruction.Instruction.TheVariants.{Lda, Sta}
 use Rattle.runs.specs.Code as code
 use Rattle.emission.specs.Draft as draft
 use Rattle.emission.specs.Draft.{Word, fixed, pending, parenthesis}
 use Rattle.assembly.specs.Words.{instruction_word}
-use Rattle.assembly.specs.Plans.{Words, Work, work, operating, reduces, operation, reduce, pushed, unmarked, loaded}
-use Rattle.assembly.specs.Drawn.{operator_code, mark_code, Written}
+use Rattle.assembly.specs.Plans.{Words, Work, work, reduces, operation, reduce, pushed, unmarked, loaded}
+use Rattle.assembly.specs.Drawn.{mark_code, Written}
 use Rattle.assembly.proofs.Writing.{one_more}
 
 -- the work of a plan, with its words, is that of a draft
@@ -20,23 +20,17 @@ pub record Works (number : Name → ℕ) (y : draft.Work) (z : Work) (k : Words)
   pub cells : z.cells ≡ y.cells
   pub temporaries : z.temporaries ≡ y.temporaries
 
-same_operating : (o : trees.Operator) (a : ℕ) → operating (operator_code o) a ≡ code.operating o a
-same_operating trees.plus a = refl
-same_operating trees.minus a = refl
-same_operating trees.times a = refl
-same_operating trees.over a = refl
-
 -- where there is room an entry is pushed
 pub pushed_is : {A : Type 0} (n : ℕ) (x : A) (xs : List A) → length xs < n → pushed n x xs ≡ x ∷ xs
 pushed_is n x xs h = grind (arith, nat_tests)
 
 module _ (number : Name → ℕ) where
   -- one operation
-  operated : (o : trees.Operator) (l r n : ℕ) (ws : List Word) (k : Words) → n ≤ 60000 → Written number ws k →
-      Written number (draft.operation o l r n ws) (operation (operator_code o) l r n k)
+  operated : (o : Operator) (l r n : ℕ) (ws : List Word) (k : Words) → n ≤ 60000 → Written number ws k →
+      Written number (draft.operation o l r n ws) (operation o l r n k)
   operated o l r n ws k few h =
       one_more number (fixed (Sta (code.first_temporary + n))) _ _ _ (λ _. ap (λ c. instruction_word (Sta c)) (omega arith))
-      (one_more number (fixed (code.operating o r)) _ _ _ (λ _. ap instruction_word (same_operating o r))
+      (one_more number (fixed (code.operating o r)) _ _ _ (λ _. refl)
       (one_more number (fixed (Lda l)) _ ws k (λ _. refl) h))
 
   either : (b : Bool) (y₁ y₂ : draft.Work) (z₁ z₂ : Work × Words) → Works number y₁ z₁.0 z₁.1 → Works number y₂ z₂.0 z₂.1 →
@@ -49,7 +43,7 @@ module _ (number : Name → ℕ) where
   unreduced ms cs n ws k h = record { words = h; marks = refl; cells = refl; temporaries = refl }
 
   -- the same operators are reduced, in the same order, to the same temporaries
-  reducing : (p : trees.Operator → Bool) (all : Bool) → ((o : trees.Operator) → p o ≡ reduces all (operator_code o)) →
+  reducing : (p : Operator → Bool) (all : Bool) → ((o : Operator) → p o ≡ reduces all o) →
       (ms : List draft.Mark) (cs : List ℕ) (n : ℕ) (ws : List Word) (k : Words) → n + length ms ≤ 60000 → Written number ws k →
       Works number (draft.reduce p ms cs n ws) (reduce all (map mark_code ms) cs n k).0 (reduce all (map mark_code ms) cs n k).1
   reducing p all same [] cs n ws k few h = unreduced [] cs n ws k h
@@ -59,12 +53,12 @@ module _ (number : Name → ℕ) where
   reducing p all same (pending o ∷ ms) (r ∷ l ∷ cs) n ws k few h =
       let t : min (n + 2) 65535 ≡ 2 + n = omega arith in
       let s : min (n + 1) 65535 ≡ suc n = omega arith in
-      rw (same o) (either (reduces all (operator_code o)) _ _ _ _
+      rw (same o) (either (reduces all o) _ _ _ _
       (rw (t, s) (reducing p all same ms ((code.first_temporary + n) ∷ cs) (suc n) (draft.operation o l r n ws) _ (omega arith) (rw t at (operated o l r n ws k (omega arith) h))))
       (unreduced (pending o ∷ ms) (r ∷ l ∷ cs) n ws k h))
 
   -- the same of works that agree; p is the test of the draft, and all that of the plan
-  pub reduced_works : (p : trees.Operator → Bool) (all : Bool) → ((o : trees.Operator) → p o ≡ reduces all (operator_code o)) →
+  pub reduced_works : (p : Operator → Bool) (all : Bool) → ((o : Operator) → p o ≡ reduces all o) →
       (y : draft.Work) (z : Work) (k : Words) → y.temporaries + length y.marks ≤ 60000 → Works number y z k →
       Works number (draft.reduced p y) (reduce all z.marks z.cells z.temporaries k).0 (reduce all z.marks z.cells z.temporaries k).1
   reduced_works p all same y z k few h =

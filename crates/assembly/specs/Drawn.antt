@@ -1,6 +1,5 @@
 -- A plan that is drawn from a draft: words with numbers in place of names, in a code of 4,096 words.
 use Rattle.std.specs.Prelude.{◌≡◌, ℕ, ◌+◌, ◌-◌, ◌≤◌, min, List, ◌++◌, map, reverse, length, replicate}
-use Rattle.trees.specs.Trees as trees
 use Rattle.trees.specs.Trees.{Name}
 use Rattle.runs.specs.Code.{Layout}
 use Rattle.limits.specs.Rules.{code_limit}
@@ -8,29 +7,14 @@ use Rattle.emission.specs.Draft as draft
 use Rattle.emission.specs.Draft.{Word, fixed, jump, jump_zero, Draft, words_of}
 use Rattle.emission.specs.declared.action.Action.{Action}
 use Rattle.emission.specs.declared.action.Action.TheVariants as action
-use Rattle.assembly.specs.declared.mark.Operator.{Operator}
-use Rattle.assembly.specs.declared.mark.Operator.TheVariants.{Plus, Minus, Times, Over}
 use Rattle.assembly.specs.declared.mark.Mark.{Mark}
 use Rattle.assembly.specs.declared.mark.Mark.TheVariants.{Open, Pending}
-use Rattle.assembly.specs.declared.mark.Relation.{Relation}
-use Rattle.assembly.specs.declared.mark.Relation.TheVariants.{Greater, Equal, Less}
 use Rattle.assembly.specs.Words.{packed, instruction_word, jump_operation, jump_zero_operation}
 use Rattle.assembly.specs.Plans.{Words, Plan, Rooms}
 
-abbrev pub operator_code : trees.Operator → Operator
-operator_code trees.plus = Plus
-operator_code trees.minus = Minus
-operator_code trees.times = Times
-operator_code trees.over = Over
-
 abbrev pub mark_code : draft.Mark → Mark
-mark_code (draft.pending o) = Pending (operator_code o)
+mark_code (draft.pending o) = Pending o
 mark_code draft.parenthesis = Open
-
-abbrev pub relation_code : trees.Relation → Relation
-relation_code trees.greater = Greater
-relation_code trees.equal = Equal
-relation_code trees.less = Less
 
 -- `number` gives each label the index of its symbol
 module _ (number : Name → ℕ) where
@@ -51,7 +35,7 @@ module _ (number : Name → ℕ) where
     pub cells : p.making.cells ≡ d.making.cells
     pub temporaries : p.making.temporaries ≡ d.making.temporaries
     pub target : p.target ≡ d.target
-    pub relation : p.relation ≡ relation_code d.relation
+    pub relation : p.relation ≡ d.relation
 
   -- the number r is what an action needs to know of a name or number n; the name that is kept after GO TO is a label for a
   -- jump and a variable for a choice
@@ -73,14 +57,9 @@ module _ (number : Name → ℕ) where
   Refers y action.PushNumber n r d p = r ≡ y.literal_cell n
   Refers y action.OpenGroup n r d p = Unit {0}
   Refers y action.CloseGroup n r d p = Unit {0}
-  Refers y action.Plus n r d p = Unit {0}
-  Refers y action.Minus n r d p = Unit {0}
-  Refers y action.Times n r d p = Unit {0}
-  Refers y action.Over n r d p = Unit {0}
+  Refers y (action.Operate o) n r d p = Unit {0}
   Refers y action.EndExpression n r d p = Unit {0}
-  Refers y action.Greater n r d p = Unit {0}
-  Refers y action.Equal n r d p = Unit {0}
-  Refers y action.Less n r d p = Unit {0}
+  Refers y (action.Compare x) n r d p = Unit {0}
   Refers y action.BeginThen n r d p = Unit {0}
   Refers y action.BeginElse n r d p = Unit {0}
   Refers y action.EndElse n r d p = Unit {0}

@@ -1,15 +1,16 @@
 -- A plan: the code of a text in the making, as numbers in memory, and what each action does to it.
 use Rattle.std.specs.Prelude.{ℕ, zero, suc, ◌+◌, ◌-◌, min, Bool, true, false, cond, List, [], ◌∷◌, length, nat_lt, slice_set}
+use Rattle.trees.specs.declared.operator.Operator.{Operator}
+use Rattle.trees.specs.declared.operator.Operator.TheVariants.{Plus, Minus, Times, Over}
+use Rattle.trees.specs.declared.relation.Relation.{Relation}
+use Rattle.trees.specs.declared.relation.Relation.TheVariants.{Greater}
 use Rattle.runs.specs.declared.instruction.Instruction.{Instruction}
-use Rattle.runs.specs.declared.instruction.Instruction.TheVariants.{Bru, Brz, Brn, Brp, Ada, Sub, Mul, Div, Lda, Sta, Read, Convert, Newline, Stop}
+use Rattle.runs.specs.declared.instruction.Instruction.TheVariants.{Bru, Sub, Lda, Sta, Read, Convert, Newline, Stop}
 use Rattle.emission.specs.declared.action.Action.{Action}
 use Rattle.emission.specs.declared.action.Action.TheVariants as action
-use Rattle.assembly.specs.declared.mark.Operator.{Operator}
-use Rattle.assembly.specs.declared.mark.Operator.TheVariants.{Plus, Minus, Times, Over}
 use Rattle.assembly.specs.declared.mark.Mark.{Mark}
 use Rattle.assembly.specs.declared.mark.Mark.TheVariants.{Blank, Open, Pending}
-use Rattle.assembly.specs.declared.mark.Relation.{Relation}
-use Rattle.assembly.specs.declared.mark.Relation.TheVariants.{Greater, Equal, Less}
+use Rattle.runs.specs.Code.{operating, branching}
 use Rattle.assembly.specs.Words.{packed, instruction_word, jump_operation, jump_zero_operation}
 
 -- the words so far: the code, and their number, which stays at 65,535
@@ -84,12 +85,6 @@ abbrev pub emit_jump : ℕ → ℕ → Plan → Plan
 emit_jump o n p = with_made (put_word (packed o n) p.made) p
 
 -- Expressions.
-
-abbrev pub operating : Operator → ℕ → Instruction
-operating Plus a = Ada a
-operating Minus a = Sub a
-operating Times a = Mul a
-operating Over a = Div a
 
 -- the operator is reduced before any other, or only before one that binds as close
 abbrev pub reduces : Bool → Operator → Bool
@@ -169,11 +164,6 @@ end_expression p = ended p.making.marks p
 abbrev pub aside : Relation → Plan → Plan
 aside r p = with_relation r (emit (Sta 0) p)
 
-abbrev pub branching : Relation → ℕ → Instruction
-branching Greater a = Brn a
-branching Equal a = Brz a
-branching Less a = Brp a
-
 -- the comparison, the jump to the THEN part, which begins two words on, and the jump over it, which has no address yet
 abbrev pub begin_then : Plan → Plan
 begin_then p = with_relation Greater (emit (Bru 0) (emit (branching p.relation (plus p.made.count 3)) (emit (Sub 0) p)))
@@ -201,14 +191,9 @@ acted q action.PushVariable a n p = push_cell q.cells n p
 acted q action.PushNumber a n p = push_cell q.cells n p
 acted q action.OpenGroup a n p = push_mark q.marks Open p
 acted q action.CloseGroup a n p = closed p
-acted q action.Plus a n p = operate q.marks Plus p
-acted q action.Minus a n p = operate q.marks Minus p
-acted q action.Times a n p = operate q.marks Times p
-acted q action.Over a n p = operate q.marks Over p
+acted q (action.Operate o) a n p = operate q.marks o p
 acted q action.EndExpression a n p = end_expression (reduced true p)
-acted q action.Greater a n p = aside Greater p
-acted q action.Equal a n p = aside Equal p
-acted q action.Less a n p = aside Less p
+acted q (action.Compare r) a n p = aside r p
 acted q action.BeginThen a n p = begin_then p
 acted q action.BeginElse a n p = land_at a (emit (Bru 0) p)
 acted q action.EndElse a n p = land_at a p

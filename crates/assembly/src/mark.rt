@@ -1,13 +1,5 @@
-// What waits in an expression, and how two values are compared.
-
-// An operator of an expression.
-#[derive(Clone, Copy, PartialEq, Eq, Debug)]
-pub enum Operator {
-    Plus,
-    Minus,
-    Times,
-    Over,
-}
+// What waits in an expression.
+use trees::operator::Operator;
 
 // An entry of the operator stack: an open parenthesis, or an operator that waits for its right side. Memory that holds
 // neither is blank: the caller lends it, and it holds marks before any is put there.
@@ -16,12 +8,4 @@ pub enum Mark {
     Blank,
     Open,
     Pending(Operator),
-}
-
-// The relation of a comparison.
-#[derive(Clone, Copy, PartialEq, Eq, Debug)]
-pub enum Relation {
-    Greater,
-    Equal,
-    Less,
 }
