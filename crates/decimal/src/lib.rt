@@ -28,6 +28,7 @@ fn write_digits(out: &mut [u8], start: usize, count: usize, mut n: u32)
     requires { start + count ≤ length out.old }
     ensures { out.new ≡ overwritten out.old start (last_digits count n) }
 {
+    // By places: of what `iter_mut().rev()` has written, nothing is known once it is over.
     for place in (start..start + count).rev() {
         out[place] = b'0' + (n % 10) as u8;
         n /= 10;
