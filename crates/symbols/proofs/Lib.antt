@@ -5,3 +5,4 @@ pub mod Holding
 pub mod Noting
 pub mod Reading
 pub mod Whole
+pub mod Telling

@@ -16,7 +16,7 @@ const CELLS: u16 = 446;
 const LABELS: u16 = 256;
 
 // The address of a label that stands before no command yet.
-// It is a number, and no Option, since entries are plain numbers in memory that the caller lends and hands to other languages.
+// It is a number, and no Option, since entries are plain numbers in memory that the caller lends.
 pub const PENDING: u16 = 65535;
 
 // Whether all cells for variables and numbers are in use.

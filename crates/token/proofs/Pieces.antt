@@ -128,42 +128,6 @@ goes E5 b bs on in' = absurd (false≢true in')
 goes E6 b bs on in' = absurd (false≢true on)
 goes E7 b bs on in' = absurd (false≢true in')
 
--- the byte after a token
-pub record Stays (s : State) (bs : List ℕ) : Type 0 where
-  pub width_is : width s bs ≡ 0
-  pub final_is : final s bs ≡ s
-
-pub stays : (s : State) (b : ℕ) (bs : List ℕ) → inside s ≡ true → inside (moves s b) ≡ false → Stays s (b ∷ bs)
-stays E1 b bs on out = absurd (false≢true on)
-stays E2 b bs on out = by (cases_Bool (alphanumeric b)) out
-  where
-    by : Way (alphanumeric b) → inside (moves E2 b) ≡ false → Stays E2 (b ∷ bs)
-    by (inl e) i = absurd (true≢false (rw e at i))
-    by (inr e) i = record { width_is = rw e; final_is = refl }
-stays E3 b bs on out = by (cases_Bool (digit b)) out
-  where
-    by : Way (digit b) → inside (moves E3 b) ≡ false → Stays E3 (b ∷ bs)
-    by (inl e) i = absurd (true≢false (rw e at i))
-    by (inr e) i = record { width_is = rw e; final_is = refl }
-stays E4 b bs on out = by (cases_Bool (eqb b 61)) out
-  where
-    by : Way (eqb b 61) → inside (moves E4 b) ≡ false → Stays E4 (b ∷ bs)
-    by (inl e) i = absurd (true≢false (rw e at i))
-    by (inr e) i = record { width_is = rw e; final_is = rw e }
-stays E5 b bs on out = record { width_is = refl; final_is = refl }
-stays E6 b bs on out = absurd (false≢true on)
-stays E7 b bs on out = record { width_is = refl; final_is = refl }
-
--- the end of the text
-pub stays_end : (s : State) → inside s ≡ true → Stays s []
-stays_end E1 on = absurd (false≢true on)
-stays_end E2 on = record { width_is = refl; final_is = refl }
-stays_end E3 on = record { width_is = refl; final_is = refl }
-stays_end E4 on = record { width_is = refl; final_is = refl }
-stays_end E5 on = record { width_is = refl; final_is = refl }
-stays_end E6 on = absurd (false≢true on)
-stays_end E7 on = record { width_is = refl; final_is = refl }
-
 pub along_end : (s : State) (at : ℕ) → along s at [] ≡ []
 along_end E1 at = refl
 along_end E2 at = refl

@@ -8,7 +8,7 @@ use Rattle.token.specs.Tokens.{Token}
 use Rattle.token.specs.Reading.{spelled, Proper, Stands}
 use Rattle.token.specs.Views.{Found}
 use Rattle.token.specs.Transducer.{moves, inside, width, final, emitted}
-use Rattle.token.proofs.Pieces.{from_skip, token_here, along, along_end, idle, Starts, starts, goes, stays, stays_end}
+use Rattle.token.proofs.Pieces.{from_skip, token_here, along, along_end, idle, Starts, starts, goes}
 use Rattle.token.proofs.Readings.{here}
 
 -- a loop over the bytes of ys from a on, when it has gone over i of them: the next one is that at j, or there is none
