@@ -1,16 +1,16 @@
 // The registers of a machine, and runs of code over lent memory.
-ghost use Rattle.std.specs.Prelude.{◌≡◌, ◌+◌, ◌<◌, ◌≤◌, min, true, List, length, take, drop, ℤ, if◌then◌else◌};
+ghost use Rattle.std.specs.Prelude.{◌≡◌, ◌+◌, ◌<◌, ◌≤◌, min, true, List, length, take, drop, ℤ, if◌then◌else◌, is_ok};
 ghost use Rattle.host.specs.Meaning.{Meaning};
 ghost use Rattle.arithmetic.specs.Words.{sum as sum_of, difference as difference_of, product as product_of, quotient as quotient_of};
 ghost use Rattle.runs.specs.Events.{world};
 ghost use Rattle.runs.specs.Machine.{fetch as fetched, inside, held as holds, carry_out, step as stepped, counted, run as ran, count};
-ghost use Rattle.runs.specs.declared.status.Status.TheVariants.{Running};
+ghost use Rattle.runs.specs.declared.status.Status.TheVariants.{Running, NoPaper as no_paper};
 ghost use Rattle.machine.specs.States.{whole};
 
 use super::program::Program;
 use arithmetic::Arithmetic;
 use arithmetic::operations::{difference, product, quotient, sum};
-use host::Host;
+use host::{Host, NoPaper};
 use runs::instruction::Instruction;
 use runs::status::Status;
 
@@ -52,6 +52,19 @@ impl Registers {
         self.address = if taken { address } else { self.address + 1 };
     }
 
+    // On where a mark was printed; where there was no paper for it the run closes.
+    fn mark(&mut self, printed: Result<(), NoPaper>)
+        requires { self.old.address < 4096 }
+        ensures address { self.new.address ≡ (if is_ok printed then self.old.address + 1 else self.old.address) }
+        ensures accumulator { self.new.accumulator ≡ self.old.accumulator }
+        ensures status { self.new.status ≡ (if is_ok printed then self.old.status else no_paper) }
+    {
+        match printed {
+            Ok(()) => self.address += 1,
+            Err(NoPaper) => self.status = Status::NoPaper,
+        }
+    }
+
     // Carries out an instruction whose cell is there.
     fn carry_out<H: Host, N: Arithmetic>(
         &mut self,
@@ -83,14 +96,8 @@ impl Registers {
                 Some(line) => self.load(N::fit(line)),
                 None => self.status = Status::NoLine,
             },
-            Instruction::Convert => match host.put(accumulator) {
-                Ok(()) => self.address += 1,
-                Err(_) => self.status = Status::NoPaper,
-            },
-            Instruction::Newline => match host.close() {
-                Ok(()) => self.address += 1,
-                Err(_) => self.status = Status::NoPaper,
-            },
+            Instruction::Convert => self.mark(host.put(accumulator)),
+            Instruction::Newline => self.mark(host.close()),
             Instruction::Stop => self.status = Status::Stopped,
         }
     }
@@ -108,19 +115,15 @@ impl Registers {
         ensures count { (if result then 1 else 0) ≡ counted self.old.status (fetched program.now.code.now program.now.used self.old.address) }
         ensures kept { H.Host.keeps host.old host.new }
     {
-        match self.status {
-            Status::Running => match program.fetch(self.address) {
-                Some(instruction) => {
-                    self.carry_out::<H, N>(instruction, cells, host);
-                    true
-                }
-                None => {
-                    self.status = Status::Corrupt(self.address);
-                    false
-                }
-            },
-            _ => false,
+        if self.status != Status::Running {
+            return false;
         }
+        let Some(instruction) = program.fetch(self.address) else {
+            self.status = Status::Corrupt(self.address);
+            return false;
+        };
+        self.carry_out::<H, N>(instruction, cells, host);
+        true
     }
 
     // Steps, at most as many as the budget, while instructions are carried out. Answers how many were.
