@@ -197,10 +197,8 @@ impl<'s, 'c, 't> Table<'s, 'c, 't> {
     fn is_short(&self, label: bool) -> bool
         ensures { result ≡ is_short label self.now }
     {
-        if self.len() as usize >= self.symbols.len() {
-            return true;
-        }
-        !label && self.cells_used() as usize >= self.cells.len()
+        self.len() as usize >= self.symbols.len()
+            || (!label && self.cells_used() as usize >= self.cells.len())
     }
 
     // Enters a symbol that has a cell, with what the cell holds at first.
