@@ -1,5 +1,5 @@
 -- Names and numbers told: the answer is the refusal that stands, or the entry.
-use Rattle.std.proofs.Common.{◌≡◌, ℕ, ◌+◌, ◌<◌, ◌≤◌, Bool, true, false, cond, not, ◌&&◌, eqb, ltb, leb, List, ◌∷◌, length, get_or, take, drop, ℤ, pos, Some, None, Option, Err, Result, sym, refl, ap, ◌∙◌, subst, le_refl, arith, length-set, drop-set-lt}
+use Rattle.std.proofs.Common.{◌≡◌, ℕ, ◌+◌, ◌<◌, ◌≤◌, Bool, true, false, cond, not, ◌&&◌, eqb, ltb, leb, List, ◌∷◌, length, get_or, take, drop, ℤ, pos, Some, None, Option, Err, Result, sym, refl, ap, ◌∙◌, subst, arith, length-set, drop-set-lt}
 use mathlib.Core.Option as maybe
 use lib.Seq.{take-set-le}
 use Rattle.std.proofs.lemmas.Option.{none-some}
@@ -305,20 +305,6 @@ module _ (w : Words) (a : Table) (seen : List Mention) (h : Holds w a seen) (s :
         }
 
 -- What changes keep.
-
-pub keeps_same : (a : Table) → Keeps a a
-keeps_same a = record {
-  lent_symbols = refl;
-  lent_cells = refl;
-  text = refl;
-  more_cells = le_refl a.celled;
-  more_labels = le_refl a.labels;
-  symbols_size = refl;
-  cells_size = refl;
-  symbols_beyond = λ n l. refl;
-  cells_below = refl;
-  cells_beyond = λ n l. refl;
-}
 
 module _ (a b : Table) where
   pub keeps_cell : (e : Symbol) (v : ℤ) → AddsCell a b e v → Keeps a b

@@ -1,5 +1,5 @@
 -- The mentions of tokens, and the laws of uses without refusal.
-use Rattle.std.proofs.Common.{◌≡◌, ℕ, ◌+◌, ◌<◌, ◌≤◌, Bool, true, false, cond, not, ◌&&◌, leb, ◌⊎◌, ◌↔◌, List, [], ◌∷◌, ◌++◌, length, get_or, sym, refl, ap, ◌∙◌, inl, inr, append_assoc, append-nil, le_trans, arith}
+use Rattle.std.proofs.Common.{◌≡◌, ℕ, ◌+◌, ◌<◌, ◌≤◌, Bool, true, false, cond, not, ◌&&◌, leb, ◌⊎◌, ◌↔◌, List, [], ◌∷◌, ◌++◌, length, get_or, sym, refl, ap, ◌∙◌, inl, inr, append_assoc, append-nil, arith}
 use mathlib.Core.List.{reverse_aux}
 use mathlib.Core.Option.{Option, none, some}
 use Rattle.std.specs.Str.{bytes_eq}
@@ -13,9 +13,7 @@ use Rattle.limits.specs.Rules.{cell_limit, label_limit, tokens_of, Refused}
 use Rattle.limits.specs.Refusals.{lowest, or_else, among, refused, unmet, limit_checks_at, limit_checks, first_unmet}
 use Rattle.limits.specs.Symbols.{Symbol, symbol, entered, symbols_after, symbols, kind_of, first_cell, cells_before}
 use Rattle.limits.proofs.Keys.{Way, holds, fails, way, clash, same_bytes_sound, among_complete}
-use Rattle.symbols.specs.declared.table.Table.{Table}
 use Rattle.symbols.specs.Mentions.{Mention, uses_of, pending, address_in, AllSound, entries, count, index, Accepted, earliest_unmet, with_mention, mentions_before}
-use Rattle.symbols.specs.Table.{Keeps}
 use Rattle.symbols.specs.Laws.{symbol_refusal, form_checks_at, form_checks}
 use Rattle.symbols.proofs.Firsts.{no_first, firsts, entries_are, firsts_count, key_of, first_at, Has, has_first}
 use Rattle.symbols.proofs.Exact.{answer, in_cases, defined_here, five_fails, seven_fails, eight_fails, is_long_lem, is_second, is_other, no_cell_left, no_label_left, pending_none, placed_below}
@@ -176,18 +174,3 @@ is_pending text seen x a = (λ e. by e (way (among is_definition x (uses_of seen
     by : address_in seen x ≡ pending → Way (among is_definition x (uses_of seen)) → among is_definition x (uses_of seen) ≡ false
     by e (fails m) = m
     by e (holds m) = absurd (let l = placed_below text seen a x m in omega (arith, e))
-
--- keeping
-pub along : (a b c : Table) → Keeps a b → Keeps b c → Keeps a c
-along a b c x y = record {
-  lent_symbols = y.lent_symbols ∙ x.lent_symbols;
-  lent_cells = y.lent_cells ∙ x.lent_cells;
-  text = y.text ∙ x.text;
-  more_cells = le_trans x.more_cells y.more_cells;
-  more_labels = le_trans x.more_labels y.more_labels;
-  symbols_size = y.symbols_size ∙ x.symbols_size;
-  cells_size = y.cells_size ∙ x.cells_size;
-  symbols_beyond = λ n l. y.symbols_beyond n l ∙ x.symbols_beyond n (omega (arith, y.more_cells, y.more_labels));
-  cells_below = y.cells_below ∙ x.cells_below;
-  cells_beyond = λ n l. y.cells_beyond n l ∙ x.cells_beyond n (omega (arith, y.more_cells));
-}

@@ -96,6 +96,7 @@ impl<'s, 'c, 't> Table<'s, 'c, 't> {
 
     // Tells the table that a name stands at a place. It answers the index of the name's entry, or the lowest of the refusals
     // 4 to 8 that stands at the name.
+    #[tactic(auto, using(crate::proofs::Noting::keeps_name))]
     pub fn note_name(&mut self, role: Role, spelling: Spelling) -> Result<u16, Fault>
         ensures kept { Keeps self.old self.new }
         ensures answers { Answers self.old self.new result }
@@ -138,6 +139,7 @@ impl<'s, 'c, 't> Table<'s, 'c, 't> {
     }
 
     // The same, of a number with this word.
+    #[tactic(auto, using(crate::proofs::Noting::keeps_cell))]
     fn note_word(&mut self, spelling: Spelling, word: i32) -> Result<u16, Fault>
         ensures kept { Keeps self.old self.new }
         ensures answers { Answers self.old self.new result }
@@ -197,10 +199,8 @@ impl<'s, 'c, 't> Table<'s, 'c, 't> {
     fn is_short(&self, label: bool) -> bool
         ensures { result ≡ is_short label self.now }
     {
-        if self.len() as usize >= self.symbols.len() {
-            return true;
-        }
-        !label && self.cells_used() as usize >= self.cells.len()
+        self.len() as usize >= self.symbols.len()
+            || (!label && self.cells_used() as usize >= self.cells.len())
     }
 
     // Enters a symbol that has a cell, with what the cell holds at first.

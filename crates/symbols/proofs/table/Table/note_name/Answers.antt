@@ -1,8 +1,7 @@
 use Rattle.std.proofs.Common.{sym, ap, ◌∙◌, rules}
 use Rattle.std.specs.Option.{option_map}
-use Rattle.symbols.specs.Entries.{meant}
-use Rattle.symbols.specs.Table.{fault_at, first_address}
-use Rattle.symbols.proofs.Noting.{found_none, no_definition, keeps_name}
+use Rattle.symbols.specs.Table.{fault_at}
+use Rattle.symbols.proofs.Noting.{found_none, no_definition}
 use Rattle.symbols.proofs.Telling.{known_refused, known_kept, known_placed, new_refused, new_entered}
 use Rattle.symbols.proofs.table.Table.note_name.Goals as goal
 
@@ -25,9 +24,6 @@ pub returns-in_default-clause-told : goal.returns-in_default-clause-told
 returns-in_default-clause-told c =
     known_kept c.args.self.now c.args.role c.args.spelling (sym c.if-is_long.ensures) c.in-Some.index c.in-Some.ensures.0 c.in-Some.ensures.1
     (sym c.check_known.ensures ∙ found_none c.args.spelling.place _ c.in_ok-found_at-in-Some.ensures) (no_definition c.args.role c.in_default.not-Definition)
-
-pub returns-else-is_short-clause-kept : goal.returns-else-is_short-clause-kept
-returns-else-is_short-clause-kept c = keeps_name c.args.self.now c.add_name.new.self (meant c.args.role) c.args.spelling (first_address c.args.role) c.add_name.ensures.after
 
 pub returns-else-is_short-clause-told : goal.returns-else-is_short-clause-told
 returns-else-is_short-clause-told c =

@@ -1,8 +1,6 @@
 use Rattle.std.proofs.Common.{sym, subst, w32, to_z, of_z, Ok, Err}
 use Rattle.std.proofs.lemmas.Int.{to_z-of_z}
-use Rattle.symbols.specs.Table.{NumberTold, cell_symbol}
-use Rattle.symbols.specs.Entries.{Number}
-use Rattle.symbols.proofs.Noting.{keeps_cell}
+use Rattle.symbols.specs.Table.{NumberTold}
 use Rattle.symbols.proofs.Telling.{number_kept, number_refused, number_entered}
 use Rattle.symbols.proofs.table.Table.note_word.Goals as goal
 
@@ -15,9 +13,6 @@ pub returns-then-is_full-clause-told : goal.returns-then-is_full-clause-told
 returns-then-is_full-clause-told c =
     subst (λ v. NumberTold c.args.self.now c.args.self.now c.args.spelling v (Err c.fault_at.result)) (to_z-of_z w32 c.args.word c.ranges.word)
     (number_refused c.args.self.now c.args.spelling (to_z w32 (of_z w32 c.args.word)) c.in_default.ensures c.fault_at.result (sym c.if-is_full.ensures) c.fault_at.ensures)
-
-pub returns-clause-kept : goal.returns-clause-kept
-returns-clause-kept c = keeps_cell c.args.self.now c.add_cell.new.self (cell_symbol Number c.args.spelling c.args.self.now.celled) (to_z w32 (of_z w32 c.args.word)) c.add_cell.ensures.after
 
 pub returns-clause-told : goal.returns-clause-told
 returns-clause-told c =
