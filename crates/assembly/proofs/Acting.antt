@@ -20,22 +20,14 @@ use Rattle.assembly.proofs.Writing.{one_more, landed}
 use Rattle.assembly.proofs.Reducing.{Works, reduced_works, marked_works, operand_works, closed_works, loaded_written}
 
 same_branching : (r : trees.Relation) (a : ℕ) → plans.branching (relation_code r) a ≡ code.branching r a
-same_branching trees.greater a = refl
-same_branching trees.equal a = refl
-same_branching trees.less a = refl
+same_branching r a = grind arith
 
 -- + and - reduce all before them, * and / what binds as close
 any_reduces : (o : trees.Operator) → draft.any o ≡ plans.reduces true (operator_code o)
-any_reduces trees.plus = refl
-any_reduces trees.minus = refl
-any_reduces trees.times = refl
-any_reduces trees.over = refl
+any_reduces o = grind arith
 
 binds_reduces : (o : trees.Operator) → draft.binds o ≡ plans.reduces false (operator_code o)
-binds_reduces trees.plus = refl
-binds_reduces trees.minus = refl
-binds_reduces trees.times = refl
-binds_reduces trees.over = refl
+binds_reduces o = grind arith
 
 module _ (number : Name → ℕ) where
   -- a plan is drawn from a draft by the two works and by what both keep between two tokens

@@ -21,10 +21,7 @@ pub record Works (number : Name → ℕ) (y : draft.Work) (z : Work) (k : Words)
   pub temporaries : z.temporaries ≡ y.temporaries
 
 same_operating : (o : trees.Operator) (a : ℕ) → operating (operator_code o) a ≡ code.operating o a
-same_operating trees.plus a = refl
-same_operating trees.minus a = refl
-same_operating trees.times a = refl
-same_operating trees.over a = refl
+same_operating o a = grind arith
 
 -- where there is room an entry is pushed
 pub pushed_is : {A : Type 0} (n : ℕ) (x : A) (xs : List A) → length xs < n → pushed n x xs ≡ x ∷ xs
@@ -90,9 +87,7 @@ module _ (number : Name → ℕ) where
   }
 
   same_unmarked : (ms : List draft.Mark) → unmarked (map mark_code ms) ≡ map mark_code (draft.unmarked ms)
-  same_unmarked [] = refl
-  same_unmarked (parenthesis ∷ ms) = refl
-  same_unmarked (pending o ∷ ms) = refl
+  same_unmarked ms = grind arith
 
   pub closed_works : (y : draft.Work) (z : Work) (k : Words) → Works number y z k →
       Works number (draft.closed y) (work (unmarked z.marks) z.cells z.temporaries) k
