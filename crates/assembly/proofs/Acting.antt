@@ -24,16 +24,10 @@ use Rattle.assembly.proofs.Reducing.{Works, reduced_works, marked_works, operand
 
 -- + and - reduce all before them, * and / what binds as close
 any_reduces : (o : Operator) → draft.any o ≡ plans.reduces true o
-any_reduces Plus = refl
-any_reduces Minus = refl
-any_reduces Times = refl
-any_reduces Over = refl
+any_reduces o = grind arith
 
 binds_reduces : (o : Operator) → draft.binds o ≡ plans.reduces false o
-binds_reduces Plus = refl
-binds_reduces Minus = refl
-binds_reduces Times = refl
-binds_reduces Over = refl
+binds_reduces o = grind arith
 
 module _ (number : Name → ℕ) where
   -- a plan is drawn from a draft by the two works and by what both keep between two tokens

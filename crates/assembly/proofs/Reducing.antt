@@ -84,9 +84,7 @@ module _ (number : Name → ℕ) where
   }
 
   same_unmarked : (ms : List draft.Mark) → unmarked (map mark_code ms) ≡ map mark_code (draft.unmarked ms)
-  same_unmarked [] = refl
-  same_unmarked (parenthesis ∷ ms) = refl
-  same_unmarked (pending o ∷ ms) = refl
+  same_unmarked ms = grind arith
 
   pub closed_works : (y : draft.Work) (z : Work) (k : Words) → Works number y z k →
       Works number (draft.closed y) (work (unmarked z.marks) z.cells z.temporaries) k

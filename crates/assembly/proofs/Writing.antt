@@ -1,9 +1,10 @@
 -- Words as they stand in memory: one more, and a jump that gets its address.
-use Rattle.std.proofs.Common.{◌≡◌, ℕ, zero, suc, pred, ◌-◌, ◌<◌, ◌≤◌, min, Bool, true, false, cond, eqb, ltb, List, [], ◌∷◌, ◌++◌, map, reverse, length, set, replicate, sym, refl, ap, ◌∙◌, append_assoc, arith, eqb→eq, length-set}
+use Rattle.std.proofs.Common.{◌≡◌, ℕ, suc, pred, ◌-◌, ◌<◌, ◌≤◌, min, Bool, true, false, cond, eqb, ltb, List, [], ◌∷◌, ◌++◌, map, reverse, length, set, replicate, sym, refl, ap, ◌∙◌, append_assoc, arith, eqb→eq, length-set, length-append}
 use mathlib.Core.List.{reverse_aux-eq}
 use lib.ListN.{length-map, length-reverse}
 use Rattle.std.proofs.lemmas.List.{set_at, set-append_left, set_past, map-set, map_push}
-use Rattle.std.proofs.lemmas.Bool.{eqb-false, ltb-true, ltb-false}
+use Rattle.std.proofs.lemmas.Bool.{eqb-false}
+use Rattle.std.proofs.lemmas.Bool.Decides.{nat_tests}
 use Rattle.trees.specs.Trees.{Name}
 use Rattle.runs.specs.declared.instruction.Instruction.TheVariants.{Bru}
 use Rattle.limits.specs.Rules.{code_limit}
@@ -23,10 +24,8 @@ in_order number w ws = ap (map (coded number)) (reverse_aux-eq ws (w ∷ [])) �
 
 -- a word that is not the last
 set_before : (xs : List Word) (x : Word) (j : ℕ) (v : Word) → (length xs ≡ j → ⊥) → set (xs ++ x ∷ []) j v ≡ set xs j v ++ x ∷ []
-set_before [] x zero v h = absurd (h refl)
-set_before [] x (suc j) v h = refl
-set_before (y ∷ xs) x zero v h = refl
-set_before (y ∷ xs) x (suc j) v h = ap (λ z. y ∷ z) (set_before xs x j v (λ e. h (ap suc e)))
+set_before xs x j v h =
+    grind (arith, set-append_left xs (x ∷ []) j v, set_past (xs ++ x ∷ []) j v, set_past xs j v, length-append xs (x ∷ []))
 
 -- a patch sets a word, if it is there
 patch_sets : (j t : ℕ) (ws : List Word) → reverse (patch j t ws) ≡ set (reverse ws) j (fixed (Bru t))
@@ -45,15 +44,9 @@ patch_sets j t (w ∷ ws) = go (eqb (length ws) j) refl (patch_sets j t ws) ∙ 
         ∙ sym (set_before (reverse ws) w j (fixed (Bru t)) (λ l. eqb-false (length ws) j e (sym (length-reverse ws) ∙ l)))
 
 -- the number before the address a, which the code holds among its words xs or nowhere; c is the count of them
-set_once : (f : ℕ → ℕ) (xs zs : List ℕ) (a n c : ℕ) → length xs ≡ n → c ≡ n → n < 65535 → (b : Bool) → ltb (min a 65535 - 1) c ≡ b →
-    cond b (set (xs ++ zs) (min a 65535 - 1) (f c)) (xs ++ zs) ≡ set xs (pred a) (f n) ++ zs
-set_once f xs zs a n c l same room true e =
-    let h : min a 65535 - 1 < c = ltb-true (min a 65535 - 1) c e in
-    let j : min a 65535 - 1 ≡ pred a = omega arith in
-    (λ i. set (xs ++ zs) (j i) (f (same i))) ∙ set-append_left xs zs (pred a) (f n) (omega arith)
-set_once f xs zs a n c l same room false e =
-    let h : c ≤ min a 65535 - 1 = ltb-false (min a 65535 - 1) c e in
-    ap (λ z. z ++ zs) (sym (set_past xs (pred a) (f n) (omega arith)))
+set_once : (f : ℕ → ℕ) (xs zs : List ℕ) (a n c : ℕ) → length xs ≡ n → c ≡ n → n < 65535 →
+    cond (ltb (min a 65535 - 1) c) (set (xs ++ zs) (min a 65535 - 1) (f c)) (xs ++ zs) ≡ set xs (pred a) (f n) ++ zs
+set_once f xs zs a n c l same room = grind (arith, nat_tests, set-append_left, set_past)
 
 module _ (number : Name → ℕ) where
   -- one word more; its number matters only where it has a place
@@ -99,5 +92,5 @@ module _ (number : Name → ℕ) where
       placed room =
           ap (λ z. cond (ltb (min a 65535 - 1) k.count) (set z (min a 65535 - 1) (instruction_word (Bru k.count))) z) (h.code room)
           ∙ set_once (λ t. instruction_word (Bru t)) (map (coded number) (reverse ws)) (replicate (code_limit - length ws) 0) a (length ws) k.count
-          (length-map (reverse ws) (coded number) ∙ length-reverse ws) (omega (arith, h.count)) (omega arith) (ltb (min a 65535 - 1) k.count) refl
+          (length-map (reverse ws) (coded number) ∙ length-reverse ws) (omega (arith, h.count)) (omega arith)
           ∙ (λ i. sym patched i ++ replicate (code_limit - sym as_many i) 0)

@@ -1,3 +1,2 @@
-mod Fetched
 mod Others
 pub mod Turns

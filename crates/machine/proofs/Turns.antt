@@ -1,5 +1,5 @@
 -- One step more of a run, and none after its close.
-use Rattle.std.proofs.Common.{◌≡◌, ℕ, zero, suc, ◌+◌, ◌-◌, ◌<◌, ◌⊎◌, List, Some, None, Option, sym, refl, ap, ◌∙◌, subst, inl, inr, arith}
+use Rattle.std.proofs.Common.{◌≡◌, ℕ, zero, suc, ◌+◌, ◌-◌, ◌<◌, ◌⊎◌, List, Option, sym, refl, ap, ◌∙◌, subst, inl, inr, arith}
 use Rattle.runs.specs.Events.{World}
 use Rattle.runs.specs.Machine.{State, fetch, move, counted, step, run, count}
 use Rattle.runs.specs.declared.instruction.Instruction.{Instruction}
@@ -14,37 +14,19 @@ Closed NoLine = Unit {0}
 Closed NoPaper = Unit {0}
 Closed (Corrupt a) = Unit {0}
 
+still_counted : (t : Status) → Closed t → (o : Option Instruction) → counted t o ≡ 0
+still_counted t s o = grind arith
+
+none_or_one : (t : Status) (o : Option Instruction) → (0 ≡ counted t o) ⊎ (1 ≡ counted t o)
+none_or_one t o = grind arith
+
 module _ (W : World) where
   still_move : (t : Status) → Closed t → (o : Option Instruction) (m : State) → move W t o m ≡ m
-  still_move Running s o m = absurd s
-  still_move Stopped s o m = refl
-  still_move NoLine s o m = refl
-  still_move NoPaper s o m = refl
-  still_move (Corrupt a) s o m = refl
-
-  still_counted : (t : Status) → Closed t → (o : Option Instruction) → counted t o ≡ 0
-  still_counted Running s o = absurd s
-  still_counted Stopped s o = refl
-  still_counted NoLine s o = refl
-  still_counted NoPaper s o = refl
-  still_counted (Corrupt a) s o = refl
+  still_move t s o m = grind arith
 
   -- where nothing is counted, the run is closed after the step
   uncounted : (t : Status) (o : Option Instruction) (m : State) → t ≡ m.status → 0 ≡ counted t o → Closed (move W t o m).status
-  uncounted Running (Some i) m e c = absurd (omega arith)
-  uncounted Running None m e c = tt
-  uncounted Stopped o m e c = subst Closed e tt
-  uncounted NoLine o m e c = subst Closed e tt
-  uncounted NoPaper o m e c = subst Closed e tt
-  uncounted (Corrupt a) o m e c = subst Closed e tt
-
-  none_or_one : (t : Status) (o : Option Instruction) → (0 ≡ counted t o) ⊎ (1 ≡ counted t o)
-  none_or_one Running (Some i) = inr refl
-  none_or_one Running None = inl refl
-  none_or_one Stopped o = inl refl
-  none_or_one NoLine o = inl refl
-  none_or_one NoPaper o = inl refl
-  none_or_one (Corrupt a) o = inl refl
+  uncounted t o m e c = grind arith
 
   module _ (code : List ℕ) (used : ℕ) where
     -- a closed run moves nothing and counts nothing

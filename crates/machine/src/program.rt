@@ -16,12 +16,13 @@ pub(crate) struct Program<'c> {
 }
 
 impl<'c> Program<'c> {
+    #[tactic(auto, using(std::proofs::lemmas::List::take_min))]
     pub(crate) fn new(code: &'c [u16], used: usize) -> Program<'c>
         ensures code { result.code.now ≡ take 4096 code.now }
         ensures used { result.used ≡ used }
     {
         Program {
-            code: &code[..code.len().min(ADDRESSES)],
+            code: &code[..ADDRESSES.min(code.len())],
             used,
         }
     }

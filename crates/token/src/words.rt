@@ -23,23 +23,23 @@ pub fn keyword(bytes: &[u8]) -> Option<Keyword>
     }
 }
 
-// The sign that a byte is.
+// The sign that a byte is, by its own character.
 pub fn sign(b: u8) -> Option<Sign>
     ensures { result ≡ sign_of b }
 {
-    match b {
-        b';' => Some(Sign::Semicolon),
-        b':' => Some(Sign::Colon),
-        b'+' => Some(Sign::Plus),
-        b'-' => Some(Sign::Minus),
-        b'*' => Some(Sign::Times),
-        b'/' => Some(Sign::Over),
-        b'(' => Some(Sign::Open),
-        b')' => Some(Sign::Close),
-        b',' => Some(Sign::Comma),
-        b'>' => Some(Sign::Greater),
-        b'=' => Some(Sign::Equal),
-        b'<' => Some(Sign::Less),
+    match b as char {
+        ';' => Some(Sign::Semicolon),
+        ':' => Some(Sign::Colon),
+        '+' => Some(Sign::Plus),
+        '-' => Some(Sign::Minus),
+        '*' => Some(Sign::Times),
+        '/' => Some(Sign::Over),
+        '(' => Some(Sign::Open),
+        ')' => Some(Sign::Close),
+        ',' => Some(Sign::Comma),
+        '>' => Some(Sign::Greater),
+        '=' => Some(Sign::Equal),
+        '<' => Some(Sign::Less),
         _ => None,
     }
 }
