@@ -1,6 +1,6 @@
 -- Digits written into bytes, from the last to the first.
-use Rattle.std.proofs.Common.{◌≡◌, ℕ, zero, suc, ◌+◌, ◌-◌, ◌/◌, ◌%◌, ◌^◌, ◌<◌, ◌≤◌, Bool, true, false, cond, List, [], ◌∷◌, ◌++◌, length, take, drop, set, ℤ, pos, negsuc, nat_abs, sym, refl, ap, ◌∙◌, append_assoc, arith, le-leb, length-append, drop-set-lt, take-append-drop}
-use lib.Seq.{take-set-le}
+use Rattle.std.proofs.Common.{◌≡◌, ℕ, zero, suc, ◌+◌, ◌-◌, ◌/◌, ◌%◌, ◌^◌, ◌<◌, ◌≤◌, Bool, true, false, cond, List, [], ◌∷◌, ◌++◌, length, take, drop, set, ℤ, pos, negsuc, nat_abs, sym, refl, ap, ◌∙◌, append_assoc, arith, le-leb, length-append, length-set, length-drop, length-take-le, drop-drop, drop-set-lt}
+use borrow.Rule.Slice.PartMut.{put_mid}
 use Rattle.std.proofs.lemmas.List.{drop-set, take_more_set}
 use Rattle.std.proofs.lemmas.Fmt.{decimal_nonempty}
 use Rattle.std.proofs.lemmas.Bool.Decides.{nat_tests}
@@ -13,43 +13,29 @@ unfolding last_digits
 length_last zero n = refl
 length_last (suc k) n = length-append (last_digits k (n / 10)) ((48 + n % 10) ∷ []) ∙ omega (arith, length_last k (n / 10))
 
--- the bytes once the digits before a place are written there as well
-unfoldable pub to_write : List ℕ → ℕ → ℕ → ℕ → List ℕ
-to_write out start place n = take start out ++ (last_digits (place - start) n ++ drop place out)
-
-pub all_to_write : (out : List ℕ) (start count n : ℕ) → to_write out start (start + count) n ≡ overwritten out start (last_digits count n)
-unfolding to_write
-all_to_write out start count n =
-    let e : (start + count) - start ≡ count = omega arith in
-    ap (λ k. take start out ++ (last_digits k n ++ drop (start + count) out)) e ∙ ap (λ k. take start out ++ (last_digits count n ++ drop (start + k) out)) (sym (length_last count n))
-
-pub none_to_write : (out : List ℕ) (start place n : ℕ) → place ≡ start → to_write out start place n ≡ out
-unfolding to_write last_digits
-none_to_write out start place n e =
-    let z : place - start ≡ 0 = omega arith in
-    ap (λ k. take start out ++ (last_digits k n ++ drop place out)) z ∙ ap (λ k. take start out ++ drop k out) e ∙ take-append-drop start out
-
--- the last of these digits is written
-pub turn : (out : List ℕ) (start place n : ℕ) → start < place → place ≤ length out →
-    to_write out start place n ≡ to_write (set out (place - 1) (48 + n % 10)) start (place - 1) (n / 10)
-unfolding to_write last_digits
-turn out start zero n lo hi = absurd (omega arith)
-turn out start (suc p) n lo hi =
+-- the last of the digits that are still to be written is written
+pub turn : (out : List ℕ) (place n : ℕ) → 0 < place → place ≤ length out →
+    last_digits place n ++ drop place out ≡ last_digits (place - 1) (n / 10) ++ drop (place - 1) (set out (place - 1) (48 + n % 10))
+unfolding last_digits
+turn out zero n lo hi = absurd (omega arith)
+turn out (suc p) n lo hi =
     let v : ℕ = 48 + n % 10 in
-    let new : List ℕ = set out p v in
     let e : suc p - 1 ≡ p = omega arith in
-    let k : suc p - start ≡ suc (p - start) = omega arith in
-    let front : take start new ≡ take start out = take-set-le start out p v (omega arith) in
     let i : p + 1 ≡ suc p = omega arith in
-    let back : drop p new ≡ v ∷ drop (suc p) out = drop-set out p v (omega arith) ∙ ap (λ i. v ∷ drop i out) i in
-    ap (λ j. take start out ++ (last_digits j n ++ drop (suc p) out)) k ∙
-    ap (λ b. take start out ++ b) (append_assoc (last_digits (p - start) (n / 10)) (v ∷ []) (drop (suc p) out)) ∙
-    ap (λ b. take start out ++ (last_digits (p - start) (n / 10) ++ b)) (sym back) ∙
-    ap (λ f. f ++ (last_digits (p - start) (n / 10) ++ drop p new)) (sym front) ∙
-    ap (λ q. take start (set out q v) ++ (last_digits (q - start) (n / 10) ++ drop q (set out q v))) (sym e)
+    let back : drop p (set out p v) ≡ v ∷ drop (suc p) out = drop-set out p v (omega arith) ∙ ap (λ i. v ∷ drop i out) i in
+    append_assoc (last_digits p (n / 10)) (v ∷ []) (drop (suc p) out) ∙
+    ap (λ b. last_digits p (n / 10) ++ b) (sym back) ∙
+    ap (λ q. last_digits q (n / 10) ++ drop q (set out q v)) (sym e)
 
--- what the writing of digits keeps and leaves
-pub ruleset digit_steps = (all_to_write, none_to_write, turn)
+-- a part of the bytes is filled with digits
+pub filled : (out new : List ℕ) (a k j m : ℕ) → j ≡ k → a + k ≤ length out → new ≡ last_digits (length (take j (drop a out))) m →
+    put_mid a j out new ≡ overwritten out a (last_digits k m)
+filled out new a k j m e h d =
+    let r = length-drop a out in
+    let l : length (take j (drop a out)) ≡ k = length-take-le j (drop a out) (omega (arith, e, h, r)) ∙ e in
+    let n : new ≡ last_digits k m = d ∙ ap (λ i. last_digits i m) l in
+    let p : drop j (drop a out) ≡ drop (a + length (last_digits k m)) out = drop-drop j a out ∙ ap (λ i. drop i out) (omega (arith, e, length_last k m)) in
+    ap (λ ys. take a out ++ (ys ++ drop j (drop a out))) n ∙ ap (λ ds. take a out ++ (last_digits k m ++ ds)) p
 
 -- a number's sign tells how it is written
 signed_below : (z : ℤ) → lt_z z (pos 0) ≡ true → signed z ≡ 45 ∷ decimal (nat_abs z)
@@ -81,21 +67,26 @@ fits_written : (out bs : List ℕ) (start : ℕ) → start + length bs ≤ lengt
 fits_written out bs start h = ap (λ b. cond b (overwritten out start bs) out) (le-leb (start + length bs) (length out) h)
 
 -- a number is written by its sign, if it has one, and its digits
-pub written_below : (out : List ℕ) (start width m : ℕ) (z : ℤ) → lt_z z (pos 0) ≡ true → m ≡ nat_abs z → m < 2 ^ 64 → width ≡ length (signed z) → start + width ≤ length out →
-    written out start (signed z) ≡ overwritten (set out start 45) (start + 1) (last_digits (width - 1) m)
-written_below out start width m z t a f w h =
+pub written_below : (out new : List ℕ) (start width j m : ℕ) (z : ℤ) → lt_z z (pos 0) ≡ true → m ≡ nat_abs z → m < 2 ^ 64 → width ≡ length (signed z) → start + width ≤ length out →
+    j ≡ start + width - (start + 1) → new ≡ last_digits (length (take j (drop (start + 1) (set out start 45)))) m →
+    put_mid (start + 1) j (set out start 45) new ≡ written out start (signed z)
+written_below out new start width j m z t a f w h q d =
     let s = signed_below z t in
     let l = ap length s in
-    let n : nat_abs z ≡ m = sym a in
-    let d : last_digits (width - 1) m ≡ decimal (nat_abs z) = all_last (width - 1) m f (omega (arith, w, l, ap (λ k. length (decimal k)) a)) ∙ ap decimal a in
-    fits_written out (signed z) start (omega (arith, w)) ∙ ap (overwritten out start) s ∙ sym (overwritten_cons out start 45 (decimal (nat_abs z)) (omega (arith, w, l))) ∙
-    ap (overwritten (set out start 45) (start + 1)) (sym d)
+    let r = length-set out start 45 in
+    let digits : last_digits (width - 1) m ≡ decimal (nat_abs z) = all_last (width - 1) m f (omega (arith, w, l, ap (λ k. length (decimal k)) a)) ∙ ap decimal a in
+    filled (set out start 45) new (start + 1) (width - 1) j m (omega (arith, q)) (omega (arith, w, l, r)) d ∙
+    ap (overwritten (set out start 45) (start + 1)) digits ∙
+    overwritten_cons out start 45 (decimal (nat_abs z)) (omega (arith, w, l)) ∙
+    sym (fits_written out (signed z) start (omega (arith, w)) ∙ ap (overwritten out start) s)
 
-pub written_from : (out : List ℕ) (start width m : ℕ) (z : ℤ) → lt_z z (pos 0) ≡ false → m ≡ nat_abs z → m < 2 ^ 64 → width ≡ length (signed z) → start + width ≤ length out →
-    written out start (signed z) ≡ overwritten out start (last_digits width m)
-written_from out start width m z t a f w h =
+pub written_from : (out new : List ℕ) (start width j m : ℕ) (z : ℤ) → lt_z z (pos 0) ≡ false → m ≡ nat_abs z → m < 2 ^ 64 → width ≡ length (signed z) → start + width ≤ length out →
+    j ≡ start + width - start → new ≡ last_digits (length (take j (drop start out))) m → put_mid start j out new ≡ written out start (signed z)
+written_from out new start width j m z t a f w h q d =
     let s = signed_from z t in
-    let d : last_digits width m ≡ decimal (nat_abs z) = all_last width m f (w ∙ ap length s ∙ ap (λ k. length (decimal k)) (sym a)) ∙ ap decimal a in
-    fits_written out (signed z) start (omega (arith, w)) ∙ ap (overwritten out start) (s ∙ sym d)
+    let digits : last_digits width m ≡ decimal (nat_abs z) = all_last width m f (w ∙ ap length s ∙ ap (λ k. length (decimal k)) (sym a)) ∙ ap decimal a in
+    filled out new start width j m (omega (arith, q)) h d ∙
+    ap (overwritten out start) digits ∙
+    sym (fits_written out (signed z) start (omega (arith, w)) ∙ ap (overwritten out start) s)
 
 pub ruleset written_by_sign = (written_below, written_from)

@@ -22,14 +22,13 @@ pub fn width(n: i32) -> usize
     if n < 0 { digits + 1 } else { digits }
 }
 
-// Writes the last `count` digits of `n` from `start` on.
-#[tactic(auto, using(crate::proofs::Writes::digit_steps))]
-fn write_digits(out: &mut [u8], start: usize, count: usize, mut n: u32)
-    requires { start + count ≤ length out.old }
-    ensures { out.new ≡ overwritten out.old start (last_digits count n) }
+// Fills bytes with the last digits of a number, as many as there are bytes.
+#[tactic(auto, using(crate::proofs::Writes::turn))]
+fn write_digits(out: &mut [u8], mut n: u32)
+    ensures { out.new ≡ last_digits (length out.old) n }
 {
     // By places: of what `iter_mut().rev()` has written, nothing is known once it is over.
-    for place in (start..start + count).rev() {
+    for place in (0..out.len()).rev() {
         out[place] = b'0' + (n % 10) as u8;
         n /= 10;
     }
@@ -51,9 +50,9 @@ pub fn write(out: &mut [u8], start: usize, n: i32) -> Result<(), NoRoom>
     }
     if n < 0 {
         out[start] = b'-';
-        write_digits(out, start + 1, width - 1, n.unsigned_abs());
+        write_digits(&mut out[start + 1..start + width], n.unsigned_abs());
     } else {
-        write_digits(out, start, width, n.unsigned_abs());
+        write_digits(&mut out[start..start + width], n.unsigned_abs());
     }
     Ok(())
 }
