@@ -137,7 +137,8 @@ impl<'c, 'o, 'm> Assembler<'c, 'o, 'm> {
         }
     }
 
-    // The entries of the stacks: by the limits of a text there is always room, so that each push succeeds.
+    // The entries of the stacks: by the limits of a text there is always room, so that each push succeeds. Each stack has its
+    // method: one for both would be given the stack and its part of the plan, and say no less.
     fn push_operand(&mut self, cell: u16)
         ensures after { plan self.new ≡ push_cell (rooms self.old).cells cell (plan self.old) }
         ensures kept { Keeps self.old self.new }

@@ -65,7 +65,7 @@ impl Registers {
         }
     }
 
-    // Carries out an instruction whose cell is there.
+    // Carries out an instruction whose cell is there. Cells and host stay two parameters, as callers lend them to `run`.
     fn carry_out<H: Host, N: Arithmetic>(
         &mut self,
         instruction: Instruction,
