@@ -278,6 +278,7 @@ impl<'c, 'o, 'm> Assembler<'c, 'o, 'm> {
         ensures after { plan self.new ≡ acted (rooms self.old) action entered reference (plan self.old) }
         ensures kept { Keeps self.old self.new }
     {
+        // Actions are entries of a constant table, which holds no closures: they are told apart here, each once.
         match action {
             Action::Nothing | Action::DefineLabel => {}
             Action::SetTarget => self.target = reference,

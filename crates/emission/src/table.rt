@@ -10,6 +10,7 @@ use trees::operator::Operator;
 use trees::relation::Relation;
 
 // A row for each state, a column for each class: names, numbers, the keywords, the signs, other bytes.
+// Letters stand for moves, since a row of moves would not fit on a line and the table could not be read as one.
 const TABLE: [[u8; 26]; 24] = [
     *b"..7.........8.............",
     *b"9//:;//<=>////////////////",

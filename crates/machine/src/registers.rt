@@ -15,6 +15,7 @@ use runs::instruction::Instruction;
 use runs::status::Status;
 
 // Where a run stands: the address of the next word, the accumulator, and whether the run is open.
+// Callers may put any address here, so that it is below 4,096 is no invariant of the type: the methods of a step ask for it.
 #[derive(Clone, Copy, PartialEq, Eq, Debug)]
 pub struct Registers {
     pub address: u16,
@@ -78,6 +79,7 @@ impl Registers {
         ensures kept { H.Host.keeps host.old host.new }
     {
         let accumulator = self.accumulator;
+        // Instructions come from words in memory, which hold no closures: they are told apart here, each once.
         match instruction {
             Instruction::Bru(a) => self.address = a,
             Instruction::Brz(a) => self.branch(accumulator == 0, a),

@@ -53,12 +53,11 @@ fn low(word: u16) -> u16
     word & 0xfff
 }
 
-// An operation and the low 12 bits of an operand in one word.
+// The low 4 bits of an operation and the low 12 bits of an operand in one word.
 pub fn pack(operation: u16, operand: u16) -> u16
-    requires { operation < 16 }
-    ensures { result ≡ operation * 4096 + operand % 4096 }
+    ensures { result ≡ operation % 16 * 4096 + operand % 4096 }
 {
-    operation << 12 | low(operand)
+    (operation & 0xf) << 12 | low(operand)
 }
 
 // An instruction's operation and operand.

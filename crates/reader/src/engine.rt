@@ -64,6 +64,7 @@ impl<'c, 'o, 'm, 'r> Reader<'c, 'o, 'm, 'r> {
         ensures counts { self.new.counts ≡ self.old.counts }
         ensures kept { Keeps self.old self.new }
     {
+        // Moves are entries of a constant table, which holds no closures: they are told apart here, each once.
         match step {
             Move::Refuse | Move::Leave(_) => {}
             Move::End(action) => self.assembler.perform(action, address, reference),

@@ -33,7 +33,7 @@ fn short(n: usize) -> u16
     n.min(65_535) as u16
 }
 
-// Where the bytes of a token are spelled.
+// Where the bytes of a token are spelled. Offset and bytes stay two parameters here and below: they are a lexeme taken apart.
 fn spelling(place: usize, bytes: &[u8]) -> Spelling
     ensures place { result.place ≡ min place 65535 }
     ensures length { result.length ≡ min (length bytes.now) 65535 }
@@ -44,7 +44,8 @@ fn spelling(place: usize, bytes: &[u8]) -> Spelling
     }
 }
 
-// The cell of the symbol at an index.
+// The cell of the symbol at an index. Without one it is 0, as what refers to nothing: no action reads it then, and an Option
+// would be taken apart at each action in place of here.
 fn cell(table: &Table<'_, '_, '_>, index: u16) -> u16
     ensures { CellRead table.now index result }
 {

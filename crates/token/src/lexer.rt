@@ -22,7 +22,7 @@ enum State {
     E7,
 }
 
-// A lexer: a text, and how far it is read.
+// A lexer: a text, and how far it is read. It gives offsets in the text, so that where it stands is a number beside it.
 #[derive(Drop)]
 pub struct Lexer<'t> {
     text: &'t [u8],

@@ -53,6 +53,7 @@ impl<'t> Lexer<'t> {
         ensures begun { MatchBool result (Begun self.new.text.now self.new.at self.new.state) ((self.new.at ≡ length self.new.text.now) × (rest_of self.new ≡ [])) }
     {
         self.state = State::E1;
+        // Here and in `scan`: `at` is counted in the lexer itself, since the next call goes on there.
         for next in &self.text[self.at..] {
             self.step(*next);
             if self.state.inside() {
