@@ -4,7 +4,7 @@ use crate::state::State;
 
 #[derive(Clone, Copy, PartialEq, Eq, Debug)]
 pub enum Move {
-    // it refuses the token
+    // it refuses the token; a case and no Option, since it has a letter in the table as each other move has
     Refuse,
     // it acts and returns to the state below, which the token then meets
     Leave(Action),

@@ -1,4 +1,5 @@
-// The states of the translator, which its stack of returns holds too: those of the recogniser and two that only return.
+// The states of the translator, which its stack of returns holds too: those of the recogniser and two that only return, so that the
+// two enums are no one type.
 #[derive(Clone, Copy, PartialEq, Eq, Debug)]
 pub enum State {
     // after a whole command of the program

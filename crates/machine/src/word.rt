@@ -84,6 +84,8 @@ pub fn parts(instruction: Instruction) -> (u16, u16)
     }
 }
 
+// Functions and no impls of TryFrom, here and at `decode`: instructions are the type of a crate that holds no code.
+
 // The word that an instruction is made into, or `None` where its operand has more than 12 bits.
 pub fn encode(instruction: Instruction) -> Option<u16>
     ensures { result ≡ encoded instruction }

@@ -71,7 +71,7 @@ pub struct Symbol {
 }
 
 impl Symbol {
-    // The entry of memory in which no symbol stands.
+    // The entry of memory in which no symbol stands. It has a name and is no Default: to begin with it would say less.
     pub fn blank() -> Symbol
         ensures { result ≡ blank }
     {

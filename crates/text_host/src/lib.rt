@@ -43,7 +43,7 @@ impl<'i, 'o, 'l> TextHost<'i, 'o, 'l> {
         self.output.len().min(self.lengths.len()) - self.written
     }
 
-    // What is printed, as text.
+    // What is printed, as text: bytes here and marks in a tray, so that each host has its own.
     pub fn printed(&self) -> &[u8]
         ensures { result.now ≡ rendered (text_meaning self.now).marks }
     {
