@@ -1,6 +1,5 @@
 -- The table by letters says what the rows say.
 use Rattle.emission.specs.declared.state.State.TheVariants as state
-use Rattle.emission.specs.declared.moves.Move.TheVariants.{Refuse}
 use Rattle.std.proofs.Common.{◌≡◌, ℕ, zero, suc, ◌-◌, ◌<◌, ◌≤◌, List, [], ◌∷◌, ◌++◌, map, length, get_or, min, inl, inr, sym, refl, ap, ◌∙◌, arith}
 use Rattle.std.proofs.lemmas.List.{get_or-map, get_or_past}
 use Rattle.std.proofs.lemmas.Bool.{cases_lt}
@@ -9,14 +8,14 @@ use Rattle.token.specs.declared.kinds.Keyword.{Keyword}
 use Rattle.token.specs.declared.kinds.Keyword.TheVariants as keyword_of
 use Rattle.token.specs.declared.kinds.Sign.{Sign}
 use Rattle.token.specs.declared.kinds.Sign.TheVariants as sign_of
-use Rattle.emission.specs.Table.{State, Move, move}
-use Rattle.emission.specs.Classes.{meaning, class, samples, class_move, state_number, all_moves, letters}
+use Rattle.emission.specs.Table.{State, Move, refuse, move}
+use Rattle.emission.specs.Classes.{class, samples, class_move, state_number, all_moves, letters}
 
 abbrev classes : List Token
 classes = samples ++ (other 0 ∷ [])
 
 abbrev pub by_letter : ℕ → Move
-by_letter i = meaning (get_or all_moves (i - 46) Refuse)
+by_letter i = get_or all_moves (i - 46) refuse
 
 row : State → List ℕ
 row s = get_or letters (state_number s) []

@@ -1,7 +1,7 @@
 -- The classes of tokens that the table tells apart, and its moves as the code has them.
 use Rattle.token.specs.declared.kinds.Keyword.TheVariants as keyword_of
 use Rattle.token.specs.declared.kinds.Sign.TheVariants as sign_of
-use Rattle.std.specs.Prelude.{ℕ, ◌+◌, List, [], ◌∷◌, Some, None, codes, Option, slice_index_or}
+use Rattle.std.specs.Prelude.{ℕ, ◌+◌, List, [], ◌∷◌, reverse, Some, None, codes, Option, slice_index_or}
 use Rattle.token.specs.Tokens.{Token, name, number, keyword, sign, other}
 use Rattle.grammar.specs.Tests.{keyword_code, sign_code}
 use Rattle.trees.specs.declared.operator.Operator.TheVariants as operator
@@ -15,10 +15,7 @@ use Rattle.emission.specs.Table.{State, to, call, call_two, leaves, Move, refuse
 abbrev pub meaning : Coded → Move
 meaning code.Refuse = refuse
 meaning (code.Leave a) = leave a
-meaning (code.End a) = enter (leaves a)
-meaning (code.Go a s) = enter (to a s)
-meaning (code.Call a s r) = enter (call a s r)
-meaning (code.CallTwo a s r q) = enter (call_two a s r q)
+meaning (code.Take a ss) = enter (record { action = a; states = reverse ss.now })
 
 -- names, numbers, each keyword, each sign, and any other byte
 abbrev pub class : Token → ℕ
@@ -71,53 +68,53 @@ state_number state.AfterOperand = 22
 state_number state.Group = 23
 
 -- each move that the table has, once; the first has the letter 46, which is ".", the next 47, and so on
-abbrev pub all_moves : List Coded
+abbrev pub all_moves : List Move
 all_moves =
-    code.Refuse ∷
-    code.Leave action.Nothing ∷
-    code.Leave action.StoreTarget ∷
-    code.Leave action.JumpToName ∷
-    code.Leave action.SkipLine ∷
-    code.Leave action.EndLine ∷
-    code.Leave action.PrintValue ∷
-    code.Leave action.EndElse ∷
-    code.Leave action.EndExpression ∷
-    code.End action.EndProgram ∷
-    code.Call action.Nothing state.Start state.Next ∷
-    code.Go action.DefineLabel state.Label ∷
-    code.Go action.Nothing state.LetWord ∷
-    code.Go action.Nothing state.GoWord ∷
-    code.Go action.Nothing state.ReadWord ∷
-    code.Go action.Nothing state.PrintWord ∷
-    code.Call action.Nothing state.Operand state.LeftSide ∷
-    code.Go action.Nothing state.Start ∷
-    code.Go action.SetTarget state.LetName ∷
-    code.Call action.Nothing state.Operand state.LetEnd ∷
-    code.Go action.Nothing state.ToWord ∷
-    code.Go action.KeepName state.ToName ∷
-    code.Go action.LoadName state.OfWord ∷
-    code.Go action.FirstLabel state.OfNames ∷
-    code.Go action.Nothing state.OfComma ∷
-    code.Go action.FurtherLabel state.OfNames ∷
-    code.Go action.ReadName state.ReadNames ∷
-    code.Go action.Nothing state.ReadComma ∷
-    code.Call action.PushVariable state.AfterOperand state.PrintList ∷
-    code.Call action.PushNumber state.AfterOperand state.PrintList ∷
-    code.CallTwo action.OpenGroup state.Operand state.Group state.PrintList ∷
-    code.Call action.PrintValue state.Operand state.PrintList ∷
-    code.Call (action.Compare relation.Greater) state.Operand state.RightSide ∷
-    code.Call (action.Compare relation.Equal) state.Operand state.RightSide ∷
-    code.Call (action.Compare relation.Less) state.Operand state.RightSide ∷
-    code.Call action.BeginThen state.Start state.ThenPart ∷
-    code.Call action.BeginElse state.Start state.ElsePart ∷
-    code.Go action.PushVariable state.AfterOperand ∷
-    code.Go action.PushNumber state.AfterOperand ∷
-    code.Call action.OpenGroup state.Operand state.Group ∷
-    code.Go (action.Operate operator.Plus) state.Operand ∷
-    code.Go (action.Operate operator.Minus) state.Operand ∷
-    code.Go (action.Operate operator.Times) state.Operand ∷
-    code.Go (action.Operate operator.Over) state.Operand ∷
-    code.Go action.CloseGroup state.AfterOperand ∷ []
+    refuse ∷
+    leave action.Nothing ∷
+    leave action.StoreTarget ∷
+    leave action.JumpToName ∷
+    leave action.SkipLine ∷
+    leave action.EndLine ∷
+    leave action.PrintValue ∷
+    leave action.EndElse ∷
+    leave action.EndExpression ∷
+    enter (leaves action.EndProgram) ∷
+    enter (call action.Nothing state.Start state.Next) ∷
+    enter (to action.DefineLabel state.Label) ∷
+    enter (to action.Nothing state.LetWord) ∷
+    enter (to action.Nothing state.GoWord) ∷
+    enter (to action.Nothing state.ReadWord) ∷
+    enter (to action.Nothing state.PrintWord) ∷
+    enter (call action.Nothing state.Operand state.LeftSide) ∷
+    enter (to action.Nothing state.Start) ∷
+    enter (to action.SetTarget state.LetName) ∷
+    enter (call action.Nothing state.Operand state.LetEnd) ∷
+    enter (to action.Nothing state.ToWord) ∷
+    enter (to action.KeepName state.ToName) ∷
+    enter (to action.LoadName state.OfWord) ∷
+    enter (to action.FirstLabel state.OfNames) ∷
+    enter (to action.Nothing state.OfComma) ∷
+    enter (to action.FurtherLabel state.OfNames) ∷
+    enter (to action.ReadName state.ReadNames) ∷
+    enter (to action.Nothing state.ReadComma) ∷
+    enter (call action.PushVariable state.AfterOperand state.PrintList) ∷
+    enter (call action.PushNumber state.AfterOperand state.PrintList) ∷
+    enter (call_two action.OpenGroup state.Operand state.Group state.PrintList) ∷
+    enter (call action.PrintValue state.Operand state.PrintList) ∷
+    enter (call (action.Compare relation.Greater) state.Operand state.RightSide) ∷
+    enter (call (action.Compare relation.Equal) state.Operand state.RightSide) ∷
+    enter (call (action.Compare relation.Less) state.Operand state.RightSide) ∷
+    enter (call action.BeginThen state.Start state.ThenPart) ∷
+    enter (call action.BeginElse state.Start state.ElsePart) ∷
+    enter (to action.PushVariable state.AfterOperand) ∷
+    enter (to action.PushNumber state.AfterOperand) ∷
+    enter (call action.OpenGroup state.Operand state.Group) ∷
+    enter (to (action.Operate operator.Plus) state.Operand) ∷
+    enter (to (action.Operate operator.Minus) state.Operand) ∷
+    enter (to (action.Operate operator.Times) state.Operand) ∷
+    enter (to (action.Operate operator.Over) state.Operand) ∷
+    enter (to action.CloseGroup state.AfterOperand) ∷ []
 
 -- a row for each state, in it the letter of a move for each class
 unfoldable pub letters : List (List ℕ)

@@ -8,10 +8,6 @@ pub enum Move {
     Refuse,
     // it acts and returns to the state below, which the token then meets
     Leave(Action),
-    // it acts, and takes the token: no state comes in place of the current one, or a new one, below which one or two
-    // others are to return to
-    End(Action),
-    Go(Action, State),
-    Call(Action, State, State),
-    CallTwo(Action, State, State, State),
+    // it acts, and takes the token: these states are put on the stack in place of the current one, in this order
+    Take(Action, &'static [State]),
 }

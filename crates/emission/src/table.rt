@@ -1,7 +1,7 @@
 // The table: for each state and each class of tokens, the letter of what the translator does there.
-ghost use Rattle.std.specs.Prelude.{◌≡◌, ◌-◌, ◌<◌, [], slice_index, slice_index_or};
-ghost use Rattle.emission.specs.declared.moves.Move.TheVariants.{Refuse};
-ghost use Rattle.emission.specs.Classes.{all_moves, class_move, letters, meaning, state_number};
+ghost use Rattle.std.specs.Prelude.{◌≡◌, ◌-◌, ◌<◌, [], map, slice_index, slice_index_or};
+ghost use Rattle.emission.specs.Table.{refuse};
+ghost use Rattle.emission.specs.Classes.{class_move, letters, meaning, state_number};
 
 use crate::action::Action;
 use crate::moves::Move;
@@ -49,59 +49,57 @@ const MOVES: [Move; 45] = [
     Move::Leave(Action::PrintValue),
     Move::Leave(Action::EndElse),
     Move::Leave(Action::EndExpression),
-    Move::End(Action::EndProgram),
-    Move::Call(Action::Nothing, State::Start, State::Next),
-    Move::Go(Action::DefineLabel, State::Label),
-    Move::Go(Action::Nothing, State::LetWord),
-    Move::Go(Action::Nothing, State::GoWord),
-    Move::Go(Action::Nothing, State::ReadWord),
-    Move::Go(Action::Nothing, State::PrintWord),
-    Move::Call(Action::Nothing, State::Operand, State::LeftSide),
-    Move::Go(Action::Nothing, State::Start),
-    Move::Go(Action::SetTarget, State::LetName),
-    Move::Call(Action::Nothing, State::Operand, State::LetEnd),
-    Move::Go(Action::Nothing, State::ToWord),
-    Move::Go(Action::KeepName, State::ToName),
-    Move::Go(Action::LoadName, State::OfWord),
-    Move::Go(Action::FirstLabel, State::OfNames),
-    Move::Go(Action::Nothing, State::OfComma),
-    Move::Go(Action::FurtherLabel, State::OfNames),
-    Move::Go(Action::ReadName, State::ReadNames),
-    Move::Go(Action::Nothing, State::ReadComma),
-    Move::Call(Action::PushVariable, State::AfterOperand, State::PrintList),
-    Move::Call(Action::PushNumber, State::AfterOperand, State::PrintList),
-    Move::CallTwo(
+    Move::Take(Action::EndProgram, &[]),
+    Move::Take(Action::Nothing, &[State::Next, State::Start]),
+    Move::Take(Action::DefineLabel, &[State::Label]),
+    Move::Take(Action::Nothing, &[State::LetWord]),
+    Move::Take(Action::Nothing, &[State::GoWord]),
+    Move::Take(Action::Nothing, &[State::ReadWord]),
+    Move::Take(Action::Nothing, &[State::PrintWord]),
+    Move::Take(Action::Nothing, &[State::LeftSide, State::Operand]),
+    Move::Take(Action::Nothing, &[State::Start]),
+    Move::Take(Action::SetTarget, &[State::LetName]),
+    Move::Take(Action::Nothing, &[State::LetEnd, State::Operand]),
+    Move::Take(Action::Nothing, &[State::ToWord]),
+    Move::Take(Action::KeepName, &[State::ToName]),
+    Move::Take(Action::LoadName, &[State::OfWord]),
+    Move::Take(Action::FirstLabel, &[State::OfNames]),
+    Move::Take(Action::Nothing, &[State::OfComma]),
+    Move::Take(Action::FurtherLabel, &[State::OfNames]),
+    Move::Take(Action::ReadName, &[State::ReadNames]),
+    Move::Take(Action::Nothing, &[State::ReadComma]),
+    Move::Take(
+        Action::PushVariable,
+        &[State::PrintList, State::AfterOperand],
+    ),
+    Move::Take(Action::PushNumber, &[State::PrintList, State::AfterOperand]),
+    Move::Take(
         Action::OpenGroup,
-        State::Operand,
-        State::Group,
-        State::PrintList,
+        &[State::PrintList, State::Group, State::Operand],
     ),
-    Move::Call(Action::PrintValue, State::Operand, State::PrintList),
-    Move::Call(
+    Move::Take(Action::PrintValue, &[State::PrintList, State::Operand]),
+    Move::Take(
         Action::Compare(Relation::Greater),
-        State::Operand,
-        State::RightSide,
+        &[State::RightSide, State::Operand],
     ),
-    Move::Call(
+    Move::Take(
         Action::Compare(Relation::Equal),
-        State::Operand,
-        State::RightSide,
+        &[State::RightSide, State::Operand],
     ),
-    Move::Call(
+    Move::Take(
         Action::Compare(Relation::Less),
-        State::Operand,
-        State::RightSide,
+        &[State::RightSide, State::Operand],
     ),
-    Move::Call(Action::BeginThen, State::Start, State::ThenPart),
-    Move::Call(Action::BeginElse, State::Start, State::ElsePart),
-    Move::Go(Action::PushVariable, State::AfterOperand),
-    Move::Go(Action::PushNumber, State::AfterOperand),
-    Move::Call(Action::OpenGroup, State::Operand, State::Group),
-    Move::Go(Action::Operate(Operator::Plus), State::Operand),
-    Move::Go(Action::Operate(Operator::Minus), State::Operand),
-    Move::Go(Action::Operate(Operator::Times), State::Operand),
-    Move::Go(Action::Operate(Operator::Over), State::Operand),
-    Move::Go(Action::CloseGroup, State::AfterOperand),
+    Move::Take(Action::BeginThen, &[State::ThenPart, State::Start]),
+    Move::Take(Action::BeginElse, &[State::ElsePart, State::Start]),
+    Move::Take(Action::PushVariable, &[State::AfterOperand]),
+    Move::Take(Action::PushNumber, &[State::AfterOperand]),
+    Move::Take(Action::OpenGroup, &[State::Group, State::Operand]),
+    Move::Take(Action::Operate(Operator::Plus), &[State::Operand]),
+    Move::Take(Action::Operate(Operator::Minus), &[State::Operand]),
+    Move::Take(Action::Operate(Operator::Times), &[State::Operand]),
+    Move::Take(Action::Operate(Operator::Over), &[State::Operand]),
+    Move::Take(Action::CloseGroup, &[State::AfterOperand]),
 ];
 
 // The row of a state, in the order in which the states are listed.
@@ -113,7 +111,7 @@ fn row(state: State) -> usize
 
 // The move with a letter, of moves whose first has the letter ".".
 fn lettered(moves: &[Move], letter: u8) -> Move
-    ensures { result ≡ slice_index_or moves.now (letter - 46) Refuse }
+    ensures { meaning result ≡ slice_index_or (map meaning moves.now) (letter - 46) refuse }
 {
     let index = letter.saturating_sub(b'.') as usize;
     moves.get(index).copied().unwrap_or(Move::Refuse)

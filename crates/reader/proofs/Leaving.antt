@@ -1,11 +1,9 @@
 -- One state of the stack at a token, on plain values.
-use Rattle.std.proofs.Common.{◌≡◌, ℕ, suc, ◌<◌, List, ◌∷◌, length, sym, refl, ap, ◌∙◌, arith}
+use Rattle.std.proofs.Common.{◌≡◌, ℕ, suc, ◌<◌, List, ◌∷◌, length, sym, ap, ◌∙◌, arith}
 use mathlib.Core.Option.{none, some}
 use Rattle.emission.specs.declared.action.Action.{Action}
-use Rattle.emission.specs.declared.moves.Move.{Move as CodedMove}
-use Rattle.emission.specs.declared.moves.Move.TheVariants as code
-use Rattle.emission.specs.Table.{Entry, leaves, to, call, call_two, Move, refuse, leave, enter}
-use Rattle.emission.specs.Classes.{meaning, class_move}
+use Rattle.emission.specs.Table.{Entry, Move, refuse, leave, enter}
+use Rattle.emission.specs.Classes.{class_move}
 use Rattle.assembly.specs.Plans.{Plan, Rooms, acted}
 use Rattle.reading.specs.declared.returns.Return.{Return}
 use Rattle.reading.specs.Steps.{found, after_move, leaving}
@@ -28,12 +26,3 @@ module _ (q : Rooms) (c : ℕ) (xs k : List Return) (r : Return) (p : Plan) (e :
 
   pub fewer : length k < length xs
   fewer = let l : length xs ≡ suc (length k) = ap length e in omega arith
-
--- a move that neither refuses nor leaves takes the token
-pub takes : (m : CodedMove) → (m ≡ code.Refuse → ⊥) → ((a : Action) → m ≡ code.Leave a → ⊥) → (e : Entry) × (meaning m ≡ enter e)
-takes code.Refuse f g = absurd (f refl)
-takes (code.Leave a) f g = absurd (g a refl)
-takes (code.End a) f g = (leaves a, refl)
-takes (code.Go a s) f g = (to a s, refl)
-takes (code.Call a s r) f g = (call a s r, refl)
-takes (code.CallTwo a s r q) f g = (call_two a s r q, refl)

@@ -1,15 +1,14 @@
 // The engine: states on a stack of returns, and the table that says what each does at a token.
 ghost use Rattle.std.specs.Prelude.{◌≡◌, ℕ, [], ◌∷◌};
-ghost use Rattle.emission.specs.Table.{Entry, enter};
-ghost use Rattle.emission.specs.Classes.{meaning};
 ghost use Rattle.assembly.specs.Plans.{acted, words, work, planned};
 ghost use Rattle.reading.specs.Counting.{counts};
 ghost use Rattle.reading.specs.Reads.{current};
 ghost use Rattle.reading.specs.Steps.{leaving, pushed_all};
-ghost use Rattle.reader.specs.Views.{plan, rooms, returns, return_room, Keeps, Answers};
+ghost use Rattle.reader.specs.Views.{plan, rooms, returns, return_room, Keeps, entry_of, Answers};
 
 use crate::counting::no_counts;
 use crate::reader::Reader;
+use crate::step::Step;
 use assembler::assembler::Assembler;
 use assembly::mark::Mark;
 use emission::moves::Move;
@@ -26,9 +25,8 @@ impl<'c, 'o, 'm, 'r> Reader<'c, 'o, 'm, 'r> {
         self.returns.top().map_or(State::Next, |top| top.state)
     }
 
-    // States are left, each with its action, until one takes a token of this class: the address at which that state was entered,
-    // and what it does. `None` where none takes it.
-    fn leave(&mut self, class: usize) -> Option<(u16, Move)>
+    // States are left, each with its action, until one takes a token of this class: what that state does. `None` where none takes it.
+    fn leave(&mut self, class: usize) -> Option<Step>
         ensures answer { Answers (leaving (rooms self.old) «class» (returns self.old) (plan self.old)).taken result }
         ensures below { returns self.new ≡ (leaving (rooms self.old) «class» (returns self.old) (plan self.old)).below }
         ensures plan { plan self.new ≡ (leaving (rooms self.old) «class» (returns self.old) (plan self.old)).plan }
@@ -39,7 +37,13 @@ impl<'c, 'o, 'm, 'r> Reader<'c, 'o, 'm, 'r> {
             match entry(top.state, class) {
                 Move::Refuse => return None,
                 Move::Leave(action) => self.assembler.perform(action, top.address, 0),
-                step => return Some((top.address, step)),
+                Move::Take(action, states) => {
+                    return Some(Step {
+                        entered: top.address,
+                        action,
+                        states,
+                    });
+                }
             }
         }
         None
@@ -56,33 +60,17 @@ impl<'c, 'o, 'm, 'r> Reader<'c, 'o, 'm, 'r> {
         let _ = self.returns.push(Return { state, address });
     }
 
-    // A state that was entered at an address takes a token that refers to a cell or a symbol: its action is carried out, and
-    // the states that stand in its place come on the stack.
-    fn enter(&mut self, address: u16, step: Move, reference: u16)
-        ensures plan { (e : Entry) → meaning step ≡ enter e → plan self.new ≡ acted (rooms self.old) e.action address reference (plan self.old) }
-        ensures returns { (e : Entry) → meaning step ≡ enter e → returns self.new ≡ pushed_all (return_room self.old) (plan self.new).made.count e.states (returns self.old) }
+    // A state takes a token that refers to a cell or a symbol: its action is carried out, and the states that stand in its place
+    // come on the stack.
+    fn enter(&mut self, step: Step, reference: u16)
+        ensures plan { plan self.new ≡ acted (rooms self.old) step.action step.entered reference (plan self.old) }
+        ensures returns { returns self.new ≡ pushed_all (return_room self.old) (plan self.new).made.count (entry_of step).states (returns self.old) }
         ensures counts { self.new.counts ≡ self.old.counts }
         ensures kept { Keeps self.old self.new }
     {
-        // Moves are entries of a constant table, which holds no closures: they are told apart here, each once.
-        match step {
-            Move::Refuse | Move::Leave(_) => {}
-            Move::End(action) => self.assembler.perform(action, address, reference),
-            Move::Go(action, state) => {
-                self.assembler.perform(action, address, reference);
-                self.push(state);
-            }
-            Move::Call(action, state, below) => {
-                self.assembler.perform(action, address, reference);
-                self.push(below);
-                self.push(state);
-            }
-            Move::CallTwo(action, state, below, lowest) => {
-                self.assembler.perform(action, address, reference);
-                self.push(lowest);
-                self.push(below);
-                self.push(state);
-            }
+        self.assembler.perform(step.action, step.entered, reference);
+        for state in step.states {
+            self.push(*state);
         }
     }
 }

@@ -7,3 +7,4 @@ pub mod counting;
 pub mod engine;
 pub mod naming;
 pub mod reader;
+pub mod step;

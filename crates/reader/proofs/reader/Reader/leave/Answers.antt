@@ -1,7 +1,8 @@
-use Rattle.std.proofs.Common.{◌≡◌, sym, ap, ◌∙◌, rules}
+use Rattle.std.proofs.Common.{◌≡◌, reverse, sym, ap, ◌∙◌, rules}
+use Rattle.emission.specs.Classes.{meaning}
 use Rattle.reading.specs.Steps.{Found}
 use Rattle.reader.specs.Views.{plan, rooms, returns}
-use Rattle.reader.proofs.Leaving.{left, taken, fewer, takes}
+use Rattle.reader.proofs.Leaving.{left, taken, fewer}
 use Rattle.reader.proofs.reader.Reader.leave.Goals as goal
 
 pub states-smaller : goal.states-smaller
@@ -17,13 +18,12 @@ states-preserved c =
       search rules,
     )
 
-pub returns-in_default-entry : goal.returns-in_default-entry
-returns-in_default-entry c =
+pub returns-in-Take : goal.returns-in-Take
+returns-in-Take c =
     let s = c.states.self in
-    let t = takes c.entry.result c.in_default-entry.not-Refuse c.in_default-entry.not-Leave in
-    let f = sym c.states.invariant.0 ∙ taken (rooms s) c.args.class (returns s) _ c.in-Some.top (plan s) c.in-Some.ensures.cases t.0 (sym c.entry.ensures ∙ t.1) in
+    let f = sym c.states.invariant.0 ∙ taken (rooms s) c.args.class (returns s) _ c.in-Some.top (plan s) c.in-Some.ensures.cases (record { action = c.in-Take.action; states = reverse c.in-Take.states.now }) (sym c.entry.ensures ∙ ap meaning c.in-Take.is) in
     record {
-      answer = (t.0, ap (λ (x : Found). x.taken) f, t.1);
+      answer = ap (λ (x : Found). x.taken) f;
       below = sym (ap (λ (x : Found). x.below) f);
       plan = sym (ap (λ (x : Found). x.plan) f);
       counts = c.states.invariant.1;
