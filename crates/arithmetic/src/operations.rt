@@ -1,7 +1,7 @@
 // Sum, difference, product and quotient of words, written once for every arithmetic.
 // The exact result of two numbers of 32 bits fits 64 bits, so nothing is lost before it is fitted.
 ghost use Rattle.std.specs.Prelude.{◌≡◌};
-ghost use Rattle.arithmetic.specs.Words.{Words, sum as sum_of, difference as difference_of, product as product_of, quotient as quotient_of};
+ghost use Rattle.arithmetic.specs.Words.{sum as sum_of, difference as difference_of, product as product_of, quotient as quotient_of};
 
 use super::Arithmetic;
 

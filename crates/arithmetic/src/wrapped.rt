@@ -8,9 +8,9 @@ use super::Arithmetic;
 pub struct Wrapped;
 
 impl Arithmetic for Wrapped {
-    const LOWEST: i32 = -2_147_483_648;
+    const LOWEST: i32 = i32::MIN;
 
-    const HIGHEST: i32 = 2_147_483_647;
+    const HIGHEST: i32 = i32::MAX;
 
     ghost LOWEST = { negsuc 2147483647 };
 

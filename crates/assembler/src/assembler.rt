@@ -6,7 +6,8 @@ use trees::relation::Relation;
 // A code in the making. `count` is the number of its words, and stays at 65,535 once it is there; words past the end of the
 // code are counted and not written. Operands wait by their cells. `temporaries` counts the temporaries that the expression
 // has used. What is kept between two tokens of a command: the cell that LET stores to, the cell or the symbol of the name
-// after GO TO, the relation of an IF. The code and the two stacks are over memory that the caller lends, so the code is a slice
+// after GO TO, the relation of an IF. Where nothing is kept these are 0, 0 and Greater: no action reads them then, and an Option would be
+// taken apart at each action. The code and the two stacks are over memory that the caller lends, so the code is a slice
 // with a count beside it and no `Vec`.
 #[derive(Drop)]
 pub struct Assembler<'c, 'o, 'm> {

@@ -1,7 +1,6 @@
 // The assembler at work: words, expressions by two stacks, and the actions of the table.
 ghost use Rattle.std.specs.Prelude.{◌≡◌, ◌<◌, [], slice_set};
 ghost use Rattle.runs.specs.Code.{operating as operating_on, branching as branching_to};
-ghost use Rattle.assembly.specs.Words.{packed};
 ghost use Rattle.assembly.specs.Plans.{words, work, planned, with_made, put_word, emit, emit_jump, land_at, reduces, temporary, operation, reduced, binding, operate, push_mark, push_cell, closed, loaded, end_expression, aside, begin_then, acted};
 ghost use Rattle.assembler.specs.Jumps.{operation as jump_operation};
 ghost use Rattle.assembler.specs.Views.{plan, rooms, Keeps, waiting_operator, Applies};
@@ -138,7 +137,7 @@ impl<'c, 'o, 'm> Assembler<'c, 'o, 'm> {
     }
 
     // The entries of the stacks: by the limits of a text there is always room, so that each push succeeds. Each stack has its
-    // method: one for both would be given the stack and its part of the plan, and say no less.
+    // method: one for both would be given the stack and its part of the plan, and be no shorter.
     fn push_operand(&mut self, cell: u16)
         ensures after { plan self.new ≡ push_cell (rooms self.old).cells cell (plan self.old) }
         ensures kept { Keeps self.old self.new }
@@ -170,7 +169,8 @@ impl<'c, 'o, 'm> Assembler<'c, 'o, 'm> {
         self.emit(Instruction::Sta(self.temporary()));
     }
 
-    // Operators that wait on top are reduced, each to a temporary: all of them, or those that bind as close as "*" and "/".
+    // Operators that wait on top are reduced, each to a temporary: all of them, or those that bind as close as "*" and "/". Which is a
+    // truth value and no enum, since `is_reduced` alone asks, and answers it as it stands.
     fn reduce(&mut self, all: bool)
         ensures after { plan self.new ≡ reduced all (plan self.old) }
         ensures kept { Keeps self.old self.new }
@@ -273,7 +273,8 @@ impl<'c, 'o, 'm> Assembler<'c, 'o, 'm> {
         self.relation = Relation::Greater;
     }
 
-    // Carries out an action, by a state that was entered at an address, at a name or a number that refers to a cell or a symbol.
+    // Carries out an action, by a state that was entered at an address, at a name or a number that refers to a cell or a symbol. The action
+    // says which of the two the number is, and reads none where the token refers to nothing.
     pub fn perform(&mut self, action: Action, entered: u16, reference: u16)
         ensures after { plan self.new ≡ acted (rooms self.old) action entered reference (plan self.old) }
         ensures kept { Keeps self.old self.new }

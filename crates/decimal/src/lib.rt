@@ -1,8 +1,8 @@
 // Numbers as plain decimals in lent bytes: how long one is, and how it is written. It knows nothing of hosts.
 #![tactic(auto)]
 
-ghost use Rattle.std.specs.Prelude.{◌≡◌, ℕ, ◌+◌, ◌-◌, ◌^◌, ◌<◌, ◌≤◌, List, [], ◌∷◌, ◌++◌, length, ℤ, is_ok, nat_le};
-ghost use Rattle.decimal.specs.Digits.{decimal, signed, last_digits, overwritten, written};
+ghost use Rattle.std.specs.Prelude.{◌≡◌, ◌+◌, ◌-◌, ◌<◌, ◌≤◌, length, is_ok, nat_le};
+ghost use Rattle.decimal.specs.Digits.{decimal, signed, last_digits, written};
 
 // How many digits a number has; 0 has one.
 #[tactic(auto, using(crate::proofs::Lasts::digits_by_log))]
@@ -38,7 +38,7 @@ fn write_digits(out: &mut [u8], mut n: u32)
 #[derive(Clone, Copy, PartialEq, Eq, Debug)]
 pub struct NoRoom;
 
-// Writes a number from `start` on, where it fits; else nothing changes.
+// Writes a number from `start` on, where it fits; else nothing changes. Callers write at a place of a list of theirs, and are told so.
 #[tactic(auto, using(crate::proofs::Writes::written_by_sign))]
 pub fn write(out: &mut [u8], start: usize, n: i32) -> Result<(), NoRoom>
     ensures fits { is_ok result ≡ nat_le (start + length (signed n)) (length out.old) }

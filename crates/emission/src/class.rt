@@ -6,7 +6,7 @@ ghost use Rattle.emission.specs.Classes.{class_or_end};
 use token::tokens::Token;
 
 // The class of a token, the number of its column in the table. Keywords and signs follow one another in the order in which
-// their kinds list them; the other tokens carry what no cast takes, so that their numbers are written out.
+// their kinds list them; the other tokens are no plain enum, so that their columns are written out.
 pub fn class(token: Token<'_>) -> usize
     ensures { result ≡ class_or_end (meant token.entry) }
 {

@@ -109,7 +109,8 @@ fn row(state: State) -> usize
     state as usize
 }
 
-// The move with a letter, of moves whose first has the letter ".".
+// The move with a letter, of moves whose first has the letter ".". They are a parameter, so that what is said of it does not spell out
+// the constant.
 fn lettered(moves: &[Move], letter: u8) -> Move
     ensures { meaning result ≡ slice_index_or (map meaning moves.now) (letter - 46) refuse }
 {

@@ -5,9 +5,9 @@ use arithmetic::operations::{difference, product, quotient, sum};
 use arithmetic::wrapped::Wrapped;
 use std::test::Fail;
 
-const LOW: i32 = -2_147_483_648;
+const LOW: i32 = i32::MIN;
 
-const HIGH: i32 = 2_147_483_647;
+const HIGH: i32 = i32::MAX;
 
 // Each pair is what came out, and what should.
 fn all_equal(pairs: &[(i32, i32)]) -> Result<(), Fail> {

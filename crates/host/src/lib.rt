@@ -38,8 +38,8 @@ pub trait Host {
         ensures after { meaning self.new ≡ taken (meaning self.old) }
         ensures kept { keeps self.old self.new };
 
-    // Prints a number, or refuses where its weight exceeds the paper, and then nothing changes. It is a method apart from
-    // `close`, since one over a mark would have to ask that the mark's number has 32 bits, which a word has by its type.
+    // Prints a number, or refuses where its weight exceeds the paper, and then nothing changes. `put` and
+    // `close` are two methods and not one over a mark: by these names a host is known and called.
     fn put(&mut self, word: i32) -> Result<(), NoPaper>
         ensures room { is_ok result ≡ fits (weight (number word)) (meaning self.old) }
         ensures after { meaning self.new ≡ marked (weight (number word)) (number word) (meaning self.old) }

@@ -1,5 +1,5 @@
 // The tray: a host over a list of numbers and a list for marks. What it keeps true stands in its type.
-ghost use Rattle.std.specs.Prelude.{ℕ, ◌≤◌, length};
+ghost use Rattle.std.specs.Prelude.{◌≤◌, length};
 
 use super::mark::Mark;
 

@@ -41,8 +41,8 @@ impl<'n, 'm> Tray<'n, 'm> {
         &self.marks[..self.count]
     }
 
-    // Puts a mark behind those that are printed. A tray goes by the list itself and no stack: marks are read first to last and never
-    // taken off.
+    // Puts a mark behind those that are printed. A tray holds a plain list and no `Stack`: marks are read first to last and
+    // never taken off.
     fn print(&mut self, mark: Mark) -> Result<(), NoPaper>
         ensures room { is_ok result ≡ fits 1 (tray_meaning self.old) }
         ensures after { tray_meaning self.new ≡ marked 1 mark (tray_meaning self.old) }

@@ -2,7 +2,6 @@
 // It knows nothing of hosts.
 #![tactic(auto)]
 
-ghost use Rattle.std.specs.Prelude.{◌≡◌};
 ghost use Rattle.lines.specs.Checking.{Checked};
 ghost use Rattle.lines.specs.Reading.{FormHolds};
 

@@ -1,9 +1,9 @@
 // The lines of a text that are still to be read. What it keeps true stands in its type.
-ghost use Rattle.std.specs.Prelude.{◌≡◌, ℕ, ◌≤◌, true, length, drop};
+ghost use Rattle.std.specs.Prelude.{◌≡◌, ◌≤◌, true, length, drop};
 ghost use Rattle.lines.specs.Reading.{Start, lawful_from};
 
 // Those from `at` on are to be read, and they are whole lines.
-// It keeps the whole text beside `at`, since it promises that its loan stays the same.
+// It keeps the whole text beside `at`, since `new` and `next` promise that its text stays the one that was lent.
 #[derive(Drop)]
 pub struct Reader<'t> {
     pub(crate) text: &'t [u8],

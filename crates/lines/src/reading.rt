@@ -1,5 +1,5 @@
 // Reading lines one by one.
-ghost use Rattle.std.specs.Prelude.{◌≡◌, ℕ, ◌+◌, ◌^◌, ◌<◌, ◌≤◌, Bool, true, false, List, [], ◌∷◌, length, drop, ℤ, pos, MatchOption};
+ghost use Rattle.std.specs.Prelude.{◌≡◌, ◌+◌, ◌<◌, ◌≤◌, Bool, true, false, ◌∷◌, length, drop};
 ghost use Rattle.lines.specs.Reading.{Start, Digits, lawful_from, signed, numbers, lines_of};
 ghost use Rattle.lines.specs.Readers.{to_read, LineRead};
 

@@ -1,4 +1,5 @@
-// The program of a run: the words that addresses reach, and how many cells are in use.
+// The program of a run: the words that addresses reach, and how many cells are in use. The cells are not its own: callers lend all of
+// them and say how many are in use.
 ghost use Rattle.std.specs.Prelude.{◌≡◌, ◌≤◌, length, take};
 ghost use Rattle.runs.specs.Machine.{fetch as fetched};
 

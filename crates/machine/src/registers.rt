@@ -1,7 +1,5 @@
 // The registers of a machine, and runs of code over lent memory.
-ghost use Rattle.std.specs.Prelude.{◌≡◌, ◌+◌, ◌<◌, ◌≤◌, min, true, List, length, take, drop, ℤ, if◌then◌else◌, is_ok};
-ghost use Rattle.host.specs.Meaning.{Meaning};
-ghost use Rattle.arithmetic.specs.Words.{sum as sum_of, difference as difference_of, product as product_of, quotient as quotient_of};
+ghost use Rattle.std.specs.Prelude.{◌≡◌, ◌<◌, ◌≤◌, min, true, length, take, drop, if◌then◌else◌, is_ok};
 ghost use Rattle.runs.specs.Events.{world};
 ghost use Rattle.runs.specs.Machine.{fetch as fetched, inside, held as holds, carry_out, step as stepped, counted, run as ran, count};
 ghost use Rattle.runs.specs.declared.status.Status.TheVariants.{Running, NoPaper as no_paper};
@@ -15,7 +13,6 @@ use runs::instruction::Instruction;
 use runs::status::Status;
 
 // Where a run stands: the address of the next word, the accumulator, and whether the run is open.
-// Callers may put any address here, so that it is below 4,096 is no invariant of the type: the methods of a step ask for it.
 #[derive(Clone, Copy, PartialEq, Eq, Debug)]
 pub struct Registers {
     pub address: u16,
@@ -32,41 +29,39 @@ fn held<N: Arithmetic>(cells: &[i32], cell: u16) -> i32
 }
 
 impl Registers {
-    // A word into the accumulator, and on.
-    fn load(&mut self, word: i32)
-        requires { self.old.address < 4096 }
+    // A word into the accumulator, and on at the next address.
+    fn load(&mut self, word: i32, next: u16)
         ensures accumulator { self.new.accumulator ≡ word }
-        ensures address { self.new.address ≡ self.old.address + 1 }
+        ensures address { self.new.address ≡ next }
         ensures status { self.new.status ≡ self.old.status }
     {
         self.accumulator = word;
-        self.address += 1;
+        self.address = next;
     }
 
     // On at an address where the jump is taken, and else on at the next.
-    fn branch(&mut self, taken: bool, address: u16)
-        requires { self.old.address < 4096 }
-        ensures address { self.new.address ≡ (if taken then address else self.old.address + 1) }
+    fn branch(&mut self, taken: bool, address: u16, next: u16)
+        ensures address { self.new.address ≡ (if taken then address else next) }
         ensures accumulator { self.new.accumulator ≡ self.old.accumulator }
         ensures status { self.new.status ≡ self.old.status }
     {
-        self.address = if taken { address } else { self.address + 1 };
+        self.address = if taken { address } else { next };
     }
 
-    // On where a mark was printed; where there was no paper for it the run closes.
-    fn mark(&mut self, printed: Result<(), NoPaper>)
-        requires { self.old.address < 4096 }
-        ensures address { self.new.address ≡ (if is_ok printed then self.old.address + 1 else self.old.address) }
+    // On at the next address where a mark was printed; where there was no paper for it the run closes.
+    fn after_mark(&mut self, printed: Result<(), NoPaper>, next: u16)
+        ensures address { self.new.address ≡ (if is_ok printed then next else self.old.address) }
         ensures accumulator { self.new.accumulator ≡ self.old.accumulator }
         ensures status { self.new.status ≡ (if is_ok printed then self.old.status else no_paper) }
     {
         match printed {
-            Ok(()) => self.address += 1,
+            Ok(()) => self.address = next,
             Err(NoPaper) => self.status = Status::NoPaper,
         }
     }
 
-    // Carries out an instruction whose cell is there. Cells and host stay two parameters, as callers lend them to `run`.
+    // Carries out an instruction whose cell is there. Cells and host stay two parameters here and below: a struct of the two loans would
+    // be taken apart again at each cell that is written and each call of the host.
     fn carry_out<H: Host, N: Arithmetic>(
         &mut self,
         instruction: Instruction,
@@ -79,27 +74,31 @@ impl Registers {
         ensures kept { H.Host.keeps host.old host.new }
     {
         let accumulator = self.accumulator;
+        let next = self.address + 1;
         // Instructions come from words in memory, which hold no closures: they are told apart here, each once.
         match instruction {
             Instruction::Bru(a) => self.address = a,
-            Instruction::Brz(a) => self.branch(accumulator == 0, a),
-            Instruction::Brn(a) => self.branch(accumulator < 0, a),
-            Instruction::Brp(a) => self.branch(accumulator > 0, a),
-            Instruction::Ada(a) => self.load(sum::<N>(accumulator, held::<N>(cells, a))),
-            Instruction::Sub(a) => self.load(difference::<N>(accumulator, held::<N>(cells, a))),
-            Instruction::Mul(a) => self.load(product::<N>(accumulator, held::<N>(cells, a))),
-            Instruction::Div(a) => self.load(quotient::<N>(accumulator, held::<N>(cells, a))),
-            Instruction::Lda(a) => self.load(held::<N>(cells, a)),
+            Instruction::Brz(a) => self.branch(accumulator == 0, a, next),
+            Instruction::Brn(a) => self.branch(accumulator < 0, a, next),
+            Instruction::Brp(a) => self.branch(accumulator > 0, a, next),
+            Instruction::Ada(a) => self.load(sum::<N>(accumulator, held::<N>(cells, a)), next),
+            Instruction::Sub(a) => self.load(
+                difference::<N>(accumulator, held::<N>(cells, a)),
+                next,
+            ),
+            Instruction::Mul(a) => self.load(product::<N>(accumulator, held::<N>(cells, a)), next),
+            Instruction::Div(a) => self.load(quotient::<N>(accumulator, held::<N>(cells, a)), next),
+            Instruction::Lda(a) => self.load(held::<N>(cells, a), next),
             Instruction::Sta(a) => {
                 cells[a as usize] = accumulator;
-                self.address += 1;
+                self.address = next;
             }
             Instruction::Read => match host.take() {
-                Some(line) => self.load(N::fit(line)),
+                Some(line) => self.load(N::fit(line), next),
                 None => self.status = Status::NoLine,
             },
-            Instruction::Convert => self.mark(host.put(accumulator)),
-            Instruction::Newline => self.mark(host.close()),
+            Instruction::Convert => self.after_mark(host.put(accumulator), next),
+            Instruction::Newline => self.after_mark(host.close(), next),
             Instruction::Stop => self.status = Status::Stopped,
         }
     }

@@ -47,7 +47,7 @@ fn operation(word: u16) -> u16
 }
 
 // The low 12 bits.
-fn low(word: u16) -> u16
+fn low_bits(word: u16) -> u16
     ensures { result ≡ word % 4096 }
 {
     word & 0xfff
@@ -57,7 +57,7 @@ fn low(word: u16) -> u16
 pub fn pack(operation: u16, operand: u16) -> u16
     ensures { result ≡ operation % 16 * 4096 + operand % 4096 }
 {
-    (operation & 0xf) << 12 | low(operand)
+    (operation & 0xf) << 12 | low_bits(operand)
 }
 
 // An instruction's operation and operand.
@@ -84,9 +84,8 @@ pub fn parts(instruction: Instruction) -> (u16, u16)
     }
 }
 
-// Functions and no impls of TryFrom, here and at `decode`: instructions are the type of a crate that holds no code.
-
-// The word that an instruction is made into, or `None` where its operand has more than 12 bits.
+// The word that an instruction is made into, or `None` where its operand has more than 12 bits. `encode` and `decode` are functions and no
+// TryFrom: `Instruction` belongs to `runs`, which holds no running code.
 pub fn encode(instruction: Instruction) -> Option<u16>
     ensures { result ≡ encoded instruction }
 {
@@ -98,7 +97,7 @@ pub fn encode(instruction: Instruction) -> Option<u16>
 pub fn decode(word: u16) -> Option<Instruction>
     ensures { result ≡ decoded word }
 {
-    let a = low(word);
+    let a = low_bits(word);
     let instruction = match operation(word) {
         BRU => Instruction::Bru(a),
         BRZ => Instruction::Brz(a),

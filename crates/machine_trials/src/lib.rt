@@ -92,18 +92,24 @@ mod tests {
         assert_eq!(rt; one::<Wrapped>(0x8000, 5), goes(2, 7));
         assert_eq!(rt; one::<Wrapped>(0x4000, 2147483647), goes(2, -2147483642));
         assert_eq!(rt; one::<Ledger>(0x4000, 99999999), goes(2, 99999999));
-        let mut stored = goes(2, 5);
-        stored.cells = [7, 5, 11];
+        let stored = Outcome {
+            cells: [7, 5, 11],
+            ..goes(2, 5)
+        };
         assert_eq!(rt; one::<Ledger>(0x9001, 5), stored);
     }
 
     #[test]
     fn calls(rt: HostRuntime) {
-        let mut read = goes(2, 40);
-        read.waits = None;
+        let read = Outcome {
+            waits: None,
+            ..goes(2, 40)
+        };
         assert_eq!(rt; one::<Wrapped>(0xa000, 5), read);
-        let mut printed = goes(2, 5);
-        printed.mark = Mark::Number(5);
+        let printed = Outcome {
+            mark: Mark::Number(5),
+            ..goes(2, 5)
+        };
         assert_eq!(rt; one::<Wrapped>(0xa001, 5), printed);
         assert_eq!(rt; one::<Wrapped>(0xa002, 5), goes(2, 5));
         assert_eq!(rt;

@@ -32,7 +32,7 @@ pub record Short (place : ℕ) (bytes : List ℕ) : Type 0 where
   pub place_short : place < 65535
   pub bytes_short : length bytes < 65535
 
--- a name in a role, at a place; `address` is that of the label that it may define
+-- a name in a role, at a place; its address is the one that the role gives
 abbrev pub NameNoted : Table → Table → Role → ℕ → List ℕ → Result ℕ Fault → Type 0
 NameNoted a b r p s x =
     (w : Words) (seen : List Mention) (address : ℕ) → Holds w a seen → Short p s → Gives r address → Sound a.text.now (mention (meant r) s p address) →

@@ -24,11 +24,7 @@ const LABELS: u16 = 64;
 pub fn no_counts() -> Counts
     ensures { result ≡ counts 0 0 0 }
 {
-    Counts {
-        operators: 0,
-        depth: 0,
-        names: 0,
-    }
+    Counts::default()
 }
 
 // After a sign: operators and open parentheses count, and any other sign ends an expression.

@@ -1,6 +1,6 @@
 // The engine: states on a stack of returns, and the table that says what each does at a token.
-ghost use Rattle.std.specs.Prelude.{◌≡◌, ℕ, [], ◌∷◌};
-ghost use Rattle.assembly.specs.Plans.{acted, words, work, planned};
+ghost use Rattle.std.specs.Prelude.{◌≡◌, [], ◌∷◌};
+ghost use Rattle.assembly.specs.Plans.{acted};
 ghost use Rattle.reading.specs.Counting.{counts};
 ghost use Rattle.reading.specs.Reads.{current};
 ghost use Rattle.reading.specs.Steps.{leaving, pushed_all};

@@ -33,7 +33,8 @@ fn short(n: usize) -> u16
     n.min(65_535) as u16
 }
 
-// Where the bytes of a token are spelled. Offset and bytes stay two parameters here and below: they are a lexeme taken apart.
+// Where the bytes of a token are spelled. Here and below offset and bytes are handed on, and no spelling: the clauses speak of the bytes,
+// which a spelling has not.
 fn spelling(place: usize, bytes: &[u8]) -> Spelling
     ensures place { result.place ≡ min place 65535 }
     ensures length { result.length ≡ min (length bytes.now) 65535 }
@@ -44,8 +45,8 @@ fn spelling(place: usize, bytes: &[u8]) -> Spelling
     }
 }
 
-// The cell of the symbol at an index. Without one it is 0, as what refers to nothing: no action reads it then, and an Option
-// would be taken apart at each action in place of here.
+// The cell of the symbol at an index. Where there is none it is 0, which no action reads; an Option would be taken apart at each action
+// in place of here.
 fn cell(table: &Table<'_, '_, '_>, index: u16) -> u16
     ensures { CellRead table.now index result }
 {
@@ -82,7 +83,8 @@ fn note_number<N: Arithmetic>(
     Ok(cell(table, index))
 }
 
-// Tells it of a token, a name in this role: what it refers to. A token that is neither a name nor a number refers to nothing.
+// Tells it of a token, a name in this role: what it refers to. A token that is neither a name nor a number refers to nothing, which is 0:
+// no action reads it then.
 pub fn note<N: Arithmetic>(
     table: &mut Table<'_, '_, '_>,
     role: Role,

@@ -2,7 +2,7 @@
 
 // The operators and the open parentheses of the whole expression so far, and the names since the last keyword; none counts past
 // 65,535.
-#[derive(Clone, Copy, PartialEq, Eq, Debug)]
+#[derive(Clone, Copy, PartialEq, Eq, Debug, Default)]
 pub struct Counts {
     pub operators: u16,
     pub depth: u16,

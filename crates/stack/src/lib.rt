@@ -1,7 +1,7 @@
 // One stack for every kind of entry, over memory that the caller lends. It knows nothing of what it holds.
 #![tactic(auto)]
 
-ghost use Rattle.std.specs.Prelude.{◌≡◌, ℕ, ◌+◌, ◌-◌, ◌<◌, ◌≤◌, Bool, true, false, List, [], ◌∷◌, length, if◌then◌else◌, MatchOption, nat_lt, is_ok};
+ghost use Rattle.std.specs.Prelude.{◌≡◌, ◌+◌, ◌-◌, ◌<◌, List, [], ◌∷◌, length, if◌then◌else◌, MatchOption, nat_lt, is_ok};
 ghost use Rattle.stack.specs.Entries.{entries, room, Keeps};
 
 pub mod stack;
@@ -27,6 +27,7 @@ impl<'a, T: Copy> Stack<'a, T> {
         ensures after { entries self.new ≡ (if is_ok result then «entry» ∷ entries self.old else entries self.old) }
         ensures kept { Keeps self.old self.new }
     {
+        // Of a place that `get_mut` lends, nothing is known once it is written.
         if self.len >= self.items.len() {
             return Err(Full);
         }

@@ -1,5 +1,5 @@
 // A stack over a lent slice. What it keeps true stands in its type.
-ghost use Rattle.std.specs.Prelude.{ℕ, ◌≤◌, length};
+ghost use Rattle.std.specs.Prelude.{◌≤◌, length};
 
 // The first `len` items are on the stack, the last of them on top. They stand in memory that the caller lends: a slice with a
 // length beside it, and no `Vec`.

@@ -14,7 +14,7 @@ use Rattle.limits.specs.Rules.{cell_limit, label_limit, Refused}
 use Rattle.limits.specs.Refusals.{unlike}
 use Rattle.limits.specs.Symbols.{first_cell, kind_of, cells_before}
 use Rattle.symbols.specs.declared.table.Table.{Table}
-use Rattle.symbols.specs.declared.kinds.Role.{Role as Told}
+use Rattle.symbols.specs.declared.kinds.Role.{Role as UseRole}
 use Rattle.symbols.specs.declared.kinds.Role.TheVariants as told
 use Rattle.symbols.specs.Entries.{Kind, Blank, Variable, Number, Label, Spelling, Symbol, blank, entry, kind_entry, meant, part}
 use Rattle.symbols.specs.Mentions.{Mention, uses_of, pending, address_in, Sound, AllSound, entries, index, contents, use_refusal, Accepted, earliest_unmet}
@@ -74,15 +74,15 @@ abbrev pub Answers : Table → Table → Result ℕ Fault → Type 0
 Answers a b (Ok i) = i < size b
 Answers a b (Err f) = b ≡ a
 
--- a mention in a role has an address: the one that the role gives its label, if the name stands before a command, and else any
-abbrev pub Gives : Told → ℕ → Type 0
+-- the address that a role gives a mention: a definition's own, and any for another role
+abbrev pub Gives : UseRole → ℕ → Type 0
 Gives (told.Definition a) address = a ≡ address
 Gives told.Target address = Unit {0}
 Gives told.Listed address = Unit {0}
 Gives told.Variable address = Unit {0}
 
 -- a name is told: bytes s, which stand in the text at the place
-abbrev pub NameTold : Table → Table → Told → Spelling → Result ℕ Fault → Type 0
+abbrev pub NameTold : Table → Table → UseRole → Spelling → Result ℕ Fault → Type 0
 NameTold a b r at x =
     (w : Words) (seen : List Mention) (s : List ℕ) (address : ℕ) → Holds w a seen → length s ≡ at.length → Gives r address →
     Sound a.text.now (mention (meant r) s at.place address) → Decides w b seen (mention (meant r) s at.place address) x
@@ -229,7 +229,7 @@ abbrev pub PlacesLabel : Table → Table → ℕ → ℕ → Type 0
 PlacesLabel a b i address = Becomes a b (slice_set a.symbols.now i (moved_to address (slice_index_or a.symbols.now i blank))) a.cells.now a.celled a.labels
 
 -- where a new label stands: where its role says, or before no command yet
-abbrev pub first_address : Told → ℕ
+abbrev pub first_address : UseRole → ℕ
 first_address (told.Definition a) = a
 first_address told.Target = pending
 first_address told.Listed = pending

@@ -1,5 +1,5 @@
 // What an entry says of a name, and which refusal stands at a name, by its entry.
-ghost use Rattle.std.specs.Prelude.{◌≡◌, ◌+◌, ◌<◌, true, false, ◌&&◌, nat_le, nat_lt};
+ghost use Rattle.std.specs.Prelude.{◌≡◌, ◌<◌, ◌&&◌, nat_le, nat_lt};
 ghost use Rattle.std.specs.Result.{result_err};
 ghost use Rattle.limits.specs.Rules.{name_limit, cell_limit};
 ghost use Rattle.symbols.specs.Entries.{meant};
@@ -16,7 +16,7 @@ const CELLS: u16 = 446;
 const LABELS: u16 = 256;
 
 // The address of a label that stands before no command yet.
-// It is a number, and no Option, since entries are plain numbers in memory that the caller lends.
+// A number and no Option: entries stand in memory that the caller lends, and what they hold is settled to the number.
 pub const PENDING: u16 = 65535;
 
 // Whether all cells for variables and numbers are in use.

@@ -4,7 +4,8 @@ ghost use Rattle.limits.specs.Uses.{is_definition, is_listed, is_label};
 ghost use Rattle.symbols.specs.Entries.{kind_number, blank, meant, part};
 ghost use Rattle.symbols.specs.Table.{has_name, of_label, of_number};
 
-// What a symbol is. Memory that holds none is blank: a kind, and no Option, since entries are plain numbers in memory that the caller lends.
+// What a symbol is. Memory that holds none is blank, which is a kind with the number 0 and no Option: the caller lends it, and what it
+// holds is settled to the number.
 #[derive(Clone, Copy, PartialEq, Eq, Debug)]
 pub enum Kind {
     Blank,
@@ -71,7 +72,7 @@ pub struct Symbol {
 }
 
 impl Symbol {
-    // The entry of memory in which no symbol stands. It has a name and is no Default: to begin with it would say less.
+    // The entry of memory in which no symbol stands. It is `blank` and no Default, as the name says what such an entry is.
     pub fn blank() -> Symbol
         ensures { result ≡ blank }
     {

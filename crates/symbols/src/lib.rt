@@ -184,8 +184,7 @@ impl<'s, 'c, 't> Table<'s, 'c, 't> {
     fn is_valued(&self, word: i32, s: Symbol) -> bool
         ensures { result ≡ is_valued self.now.cells.now word s }
     {
-        let at = s.at as usize;
-        s.kind.is_number() && at < self.cells.len() && self.cells[at] == word
+        s.kind.is_number() && self.cells.get(s.at as usize) == Some(&word)
     }
 
     // The entry of a number, by its word.
@@ -233,7 +232,7 @@ impl<'s, 'c, 't> Table<'s, 'c, 't> {
         index
     }
 
-    // Writes an entry after those in use, among which it is not counted yet.
+    // Writes an entry behind those in use; the caller counts it.
     fn write(&mut self, symbol: Symbol) -> u16
         requires room { is_short true self.old ≡ false }
         ensures index { result ≡ size self.old }

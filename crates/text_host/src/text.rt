@@ -1,5 +1,5 @@
 // The text host: a host over lines of text and bytes for output. What it keeps true stands in its type.
-ghost use Rattle.std.specs.Prelude.{◌≡◌, ℕ, ◌≤◌, min, length, take, sum};
+ghost use Rattle.std.specs.Prelude.{◌≡◌, ◌≤◌, min, length, take, sum};
 ghost use Rattle.text_host.specs.Rendering.{marks_of, rendered};
 
 use lines::reader::Reader;

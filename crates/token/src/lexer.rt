@@ -27,6 +27,7 @@ enum State {
 pub struct Lexer<'t> {
     text: &'t [u8],
     at: usize,
+    // It changes in place with each byte, so that it is the lexer's own and no answer; between calls it means nothing.
     state: State,
     ghost within: { at ≤ length text.now },
 }

@@ -23,7 +23,7 @@ pub fn keyword(bytes: &[u8]) -> Option<Keyword>
     }
 }
 
-// The sign that a byte is, by its own character.
+// The sign that a byte is.
 pub fn sign(b: u8) -> Option<Sign>
     ensures { result ≡ sign_of b }
 {

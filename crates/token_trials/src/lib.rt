@@ -16,7 +16,7 @@ pub fn count(text: &[u8]) -> usize
 {
     let mut lexer = Lexer::new(text);
     let mut n = 0;
-    while !matches!(lexer.next().token, Token::End) {
+    while lexer.next().token != Token::End {
         n += 1;
     }
     n

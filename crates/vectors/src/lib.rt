@@ -1,8 +1,8 @@
-// Files of outside cases, taken apart: a line up to byte 10, a named number, a payload of a stated length.
+// Files of outside cases, taken apart: a line up to byte 10, and a payload of a stated length.
 #![tactic(auto)]
 
-ghost use Rattle.std.specs.Prelude.{◌≡◌, ℕ, ◌<◌, ◌≤◌, List, ◌∷◌, ◌++◌, length};
-ghost use Rattle.vectors.specs.Fields.{NoEnd, LineSplit, Payload};
+ghost use Rattle.std.specs.Prelude.{◌<◌};
+ghost use Rattle.vectors.specs.Fields.{LineSplit, Payload};
 
 // The first line of a text, without its byte 10, and what follows.
 pub fn split_line(text: &[u8]) -> Option<(&[u8], &[u8])>
@@ -16,8 +16,6 @@ pub fn split_line(text: &[u8]) -> Option<(&[u8], &[u8])>
 pub fn split_payload(text: &[u8], count: usize) -> Option<(&[u8], &[u8])>
     ensures { Payload text.now count result }
 {
-    if *text.get(count)? != b'\n' {
-        return None;
-    }
-    Some((&text[..count], &text[count + 1..]))
+    let (payload, rest) = text.split_at_checked(count)?;
+    Some((payload, rest.strip_prefix(b"\n")?))
 }
