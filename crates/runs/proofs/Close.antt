@@ -48,9 +48,9 @@ open_quiets zero = open_none
 open_quiets (suc n) = open_quiet (open_quiets n)
 
 closed_not_running : (e : Close) → status_of e ≢ Running
-closed_not_running stop w = let z : ◌≡◌ {A = ℕ} 0 1 = cc in omega arith
-closed_not_running no_line w = let z : ◌≡◌ {A = ℕ} 0 1 = cc in omega arith
-closed_not_running no_paper w = let z : ◌≡◌ {A = ℕ} 0 1 = cc in omega arith
+closed_not_running stop w = grind arith
+closed_not_running no_line w = grind arith
+closed_not_running no_paper w = grind arith
 
 -- a step, or a stretch of the run, leaves it open, or shuts it
 data Outcome (ts : List Tick) (t : Stage) : Type 0 where
@@ -242,10 +242,10 @@ module _ (W : World) (law : Lawful W.words) (k : Layout) (p : Program) (placed :
       ((a : ℕ) → (machine_step W (code_of k p) k.used m).status ≢ Corrupt a) → counted t o ≡ 1
   one_counted Running (Some i) m e f r q = refl
   one_counted Running None m e f r q = absurd (q m.address (rw (e, f)))
-  one_counted Stopped o m e f r q = let z : ◌≡◌ {A = ℕ} 0 1 = cc in absurd (omega arith)
-  one_counted NoLine o m e f r q = let z : ◌≡◌ {A = ℕ} 0 1 = cc in absurd (omega arith)
-  one_counted NoPaper o m e f r q = let z : ◌≡◌ {A = ℕ} 0 1 = cc in absurd (omega arith)
-  one_counted (Corrupt a) o m e f r q = let z : ◌≡◌ {A = ℕ} 0 1 = cc in absurd (omega arith)
+  one_counted Stopped o m e f r q = grind arith
+  one_counted NoLine o m e f r q = grind arith
+  one_counted NoPaper o m e f r q = grind arith
+  one_counted (Corrupt a) o m e f r q = grind arith
 
   -- the instructions up to the close, and none after it
   up_to_close : (n c : ℕ) → Closing W p h n c → carried W k p s h c ≡ c

@@ -46,10 +46,10 @@ module _ (W : World) (code : List ℕ) (used : ℕ) where
   -- whether a run is open
   pub open_or_closed : (t : Status) → (t ≡ Running) ⊎ (t ≢ Running)
   open_or_closed Running = inl refl
-  open_or_closed Stopped = inr (λ e. let z : ◌≡◌ {A = ℕ} 0 1 = cc in omega lin)
-  open_or_closed NoLine = inr (λ e. let z : ◌≡◌ {A = ℕ} 0 1 = cc in omega lin)
-  open_or_closed NoPaper = inr (λ e. let z : ◌≡◌ {A = ℕ} 0 1 = cc in omega lin)
-  open_or_closed (Corrupt a) = inr (λ e. let z : ◌≡◌ {A = ℕ} 0 1 = cc in omega lin)
+  open_or_closed Stopped = inr (λ e. grind lin)
+  open_or_closed NoLine = inr (λ e. grind lin)
+  open_or_closed NoPaper = inr (λ e. grind lin)
+  open_or_closed (Corrupt a) = inr (λ e. grind lin)
 
   -- while it is open, each step counts
   pub all_counted : (n : ℕ) (m : State) → (run W code used n m).status ≡ Running → count W code used n m ≡ n
@@ -60,13 +60,13 @@ module _ (W : World) (code : List ℕ) (used : ℕ) where
       fetched Running (Some i) q f g = refl
       fetched Running None q f g =
           let s : (step W code used m).status ≡ Corrupt m.address = rw (g, f) in
-          let d : (step W code used m).status ≢ Running = λ w. let z : ◌≡◌ {A = ℕ} 0 1 = cc in omega lin in
+          let d : (step W code used m).status ≢ Running = λ w. grind lin in
           let z : ◌≡◌ {A = ℕ} 0 1 = cc (s, ap (λ (x : State). x.status) (still n (step W code used m) (still_step (step W code used m) d)), e) in
           absurd (omega lin)
-      fetched Stopped o q f g = let z : ◌≡◌ {A = ℕ} 0 1 = cc in absurd (omega lin)
-      fetched NoLine o q f g = let z : ◌≡◌ {A = ℕ} 0 1 = cc in absurd (omega lin)
-      fetched NoPaper o q f g = let z : ◌≡◌ {A = ℕ} 0 1 = cc in absurd (omega lin)
-      fetched (Corrupt a) o q f g = let z : ◌≡◌ {A = ℕ} 0 1 = cc in absurd (omega lin)
+      fetched Stopped o q f g = grind lin
+      fetched NoLine o q f g = grind lin
+      fetched NoPaper o q f g = grind lin
+      fetched (Corrupt a) o q f g = grind lin
 
       go : (m.status ≡ Running) ⊎ (m.status ≢ Running) → count W code used n (step W code used m) ≡ n → count W code used (suc n) m ≡ suc n
       go (inl q) i = let f = fetched m.status (fetch code used m.address) q refl refl in omega lin

@@ -1,9 +1,10 @@
 -- A program's code stands where it should, and no run of it becomes corrupt.
-use Rattle.std.proofs.Common.{◌≡◌, ℕ, zero, suc, ◌+◌, ◌<◌, ◌≤◌, Bool, true, false, cond, ◌≢◌, ◌⊎◌, List, [], ◌∷◌, length, get_or, set, ℤ, pos, Some, None, Option, sym, refl, ap, ◌∙◌, subst, inl, inr, arith, length-set}
+use Rattle.std.proofs.Common.{◌≡◌, ℕ, zero, suc, ◌+◌, ◌<◌, ◌≤◌, Bool, true, false, ◌≢◌, ◌⊎◌, List, [], ◌∷◌, length, get_or, set, ℤ, pos, Some, None, Option, sym, refl, ap, ◌∙◌, subst, inl, inr, arith, length-set}
 use mathlib.Core.Option.{some}
 use native.Mathlib.Decide.{dec_le}
 use lib.Signed.{lt_z}
 use lib.ListN.{get_elem?, length-map}
+use Rattle.std.proofs.lemmas.Bool.{cond_both}
 use Rattle.std.proofs.lemmas.List.{get_or-set_other}
 use Rattle.std.specs.List.{AllByRecursion as All}
 use Rattle.trees.specs.Trees.{Name, Command, Program, commands}
@@ -94,10 +95,6 @@ module _ (W : World) (u E : ℕ) (S : ℕ → Type 0) where
   before i a s (inl l) = l
   before i a s (inr e) = let z : ◌≡◌ {A = ℕ} 0 1 = cc (sym s ∙ ap is_stop e) in absurd (omega arith)
 
-  jumped : (b : Bool) (x y : ℕ) → x ≤ E → y ≤ E → cond b x y ≤ E
-  jumped true x y p q = p
-  jumped false x y p q = q
-
   safe_take : (o : Option ℤ) (m : State) → m.address < E → Fine m.status → Safe (take_line W.words o m)
   safe_take None m l f = record { fine = tt; within = omega arith }
   safe_take (Some z) m l f = record { fine = f; within = l }
@@ -108,9 +105,9 @@ module _ (W : World) (u E : ℕ) (S : ℕ → Type 0) where
 
   safe_do : (i : Instruction) (m : State) → Bound (suc E) u S i → (m.address < E) ⊎ (i ≡ Stop) → m.address ≤ E → Fine m.status → Safe (carry_out W i m)
   safe_do (Bru a) m b o l f = record { fine = f; within = omega arith }
-  safe_do (Brz a) m b o l f = record { fine = f; within = jumped (is_zero m.accumulator) a (suc m.address) (omega arith) (before (Brz a) m.address refl o) }
-  safe_do (Brn a) m b o l f = record { fine = f; within = jumped (lt_z m.accumulator (pos 0)) a (suc m.address) (omega arith) (before (Brn a) m.address refl o) }
-  safe_do (Brp a) m b o l f = record { fine = f; within = jumped (lt_z (pos 0) m.accumulator) a (suc m.address) (omega arith) (before (Brp a) m.address refl o) }
+  safe_do (Brz a) m b o l f = record { fine = f; within = cond_both (is_zero m.accumulator) a (suc m.address) (λ x. x ≤ E) (λ e. omega arith) (λ e. before (Brz a) m.address refl o) }
+  safe_do (Brn a) m b o l f = record { fine = f; within = cond_both (lt_z m.accumulator (pos 0)) a (suc m.address) (λ x. x ≤ E) (λ e. omega arith) (λ e. before (Brn a) m.address refl o) }
+  safe_do (Brp a) m b o l f = record { fine = f; within = cond_both (lt_z (pos 0) m.accumulator) a (suc m.address) (λ x. x ≤ E) (λ e. omega arith) (λ e. before (Brp a) m.address refl o) }
   safe_do (Ada a) m b o l f = record { fine = f; within = before (Ada a) m.address refl o }
   safe_do (Sub a) m b o l f = record { fine = f; within = before (Sub a) m.address refl o }
   safe_do (Mul a) m b o l f = record { fine = f; within = before (Mul a) m.address refl o }
