@@ -2,6 +2,7 @@
 use Rattle.std.proofs.Common.{◌≡◌, ℕ, zero, suc, ◌+◌, ◌<◌, ◌≤◌, Bool, true, false, cond, not, ◌&&◌, ◌⊎◌, List, [], ◌∷◌, length, ℤ, sym, refl, ap, ◌∙◌, subst, inl, inr, zero-le, le_trans, le_refl, arith}
 use mathlib.Core.List.{reverse_aux}
 use mathlib.Core.Option.{Option, none, some}
+use Rattle.std.proofs.Math.Nat.{ne_of_lt}
 use Rattle.std.proofs.lemmas.Bool.{false≢true, not-true, cases_lt, and_parts, or_cases}
 use Rattle.token.specs.Tokens.{Token, Placed}
 use Rattle.token.specs.Numbers.{word}
@@ -88,13 +89,10 @@ module _ (w : Words) where
   apart k l [] c d e f q = absurd (false≢true e)
   apart k l (u ∷ us) c d e f q = go (place_of k u us e) (place_of l u us f) (λ g h r. apart k l us c d g h r)
     where
-      not_less : {x y : ℕ} → x < y → x ≡ y → ⊥
-      not_less a b = omega arith
-
       go : Place k u us → Place l u us → (known w k us ≡ true → known w l us ≡ true → cells_before w k us ≡ cells_before w l us → k ≡ l) → k ≡ l
       go (older g) (older h) ih = ih g h (sym (before_older k u us g) ∙ q ∙ before_older l u us h)
-      go (older g) (newest h r) ih = absurd (not_less (below k us c g) (sym (before_older k u us g) ∙ q ∙ before_newest l u us h))
-      go (newest g r) (older h) ih = absurd (not_less (below l us d h) (sym (before_older l u us h) ∙ sym q ∙ before_newest k u us g))
+      go (older g) (newest h r) ih = absurd (ne_of_lt (below k us c g) (sym (before_older k u us g) ∙ q ∙ before_newest l u us h))
+      go (newest g r) (older h) ih = absurd (ne_of_lt (below l us d h) (sym (before_older l u us h) ∙ sym q ∙ before_newest k u us g))
       go (newest g r) (newest h s) ih = sym r ∙ s
 
   used_known : (u : Use) (us : List Use) → In u us → known w (key w u) us ≡ true
@@ -120,7 +118,7 @@ module _ (w : Words) (ts : List Token) where
   numbers_apart x d i j e = differ_key (cell_apart (made variable_use x) (made number_use d) i j refl refl e)
     where
       differ_key : variable_key x ≡ number_key (word w d) → ⊥
-      differ_key q = let z : ◌≡◌ {A = ℕ} 0 1 = cc in omega arith
+      differ_key q = grind arith
 
   pub words_apart : (d e : List ℕ) → In (made number_use d) (uses ts) → In (made number_use e) (uses ts) → literal_cell w ts d ≡ literal_cell w ts e → word w d ≡ word w e
   words_apart d e i j q = number_of (word w d) (word w e) (cell_apart (made number_use d) (made number_use e) i j refl refl q)

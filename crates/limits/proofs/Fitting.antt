@@ -15,7 +15,8 @@ use Rattle.grammar.proofs.Yields.{parsed_to}
 use Rattle.limits.specs.Uses.{Role, listed, made, after_of, use_of, is_operator, operators, names}
 use Rattle.limits.specs.Rules.{operator_limit, list_limit, past, rest, many_operators, long_list, Clear}
 use Rattle.limits.specs.Programs.{operator_count, Small, All, Fits}
-use Rattle.limits.proofs.Lists.{drop_next, past_next}
+use Rattle.grammar.proofs.Lists.{drop_next}
+use Rattle.limits.proofs.Lists.{past_next}
 use Rattle.limits.proofs.Scans.{factor_b, term_b, sum_b, left_b, statement_b, Listing, listing_role}
 
 -- neither refusal 9 nor 11 stands at the token t between b and r
