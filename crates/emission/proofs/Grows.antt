@@ -2,7 +2,7 @@
 use Rattle.std.proofs.Common.{◌≡◌, ℕ, zero, suc, pred, ◌+◌, ◌<◌, ◌≤◌, Bool, true, false, cond, T, eqb, ◌⊎◌, List, [], ◌∷◌, ◌++◌, length, sym, refl, ap, ◌∙◌, subst, inl, inr, append_assoc, arith, eqb→eq}
 use mathlib.Core.List.{reverse_aux}
 use mathlib.Core.Option.{Option, none, some, some-injective, none-ne-some}
-use lib.Dec.{eqb_refl}
+use Rattle.std.proofs.lemmas.Bool.{cond-true, cond-false, eq-eqb, ne_eqb}
 use Rattle.token.specs.Tokens.{Token}
 use Rattle.trees.specs.Trees.{Name}
 use Rattle.trees.specs.declared.operator.Operator.{Operator}
@@ -21,19 +21,11 @@ use Rattle.emission.proofs.Sizes.{patch_length}
 
 -- Words.
 -- the word at an address, in longer words
-pub skipped : (b : Bool) → (T b → ⊥) → (x z : Option Word) → cond b x z ≡ z
-skipped true h x z = absurd (h tt)
-skipped false h x z = refl
-
 pub at_older : (w : Word) (ws : List Word) (a : ℕ) → a < length ws → word_at a (w ∷ ws) ≡ word_at a ws
-at_older w ws a h = skipped (eqb (length ws) a) (λ e. let q : length ws ≡ a = eqb→eq (length ws) a e in omega arith) (some w) (word_at a ws)
+at_older w ws a h = cond-false (eqb (length ws) a) (some w) (word_at a ws) (ne_eqb (length ws) a (λ q. omega arith))
 
 pub at_newest : (w : Word) (ws : List Word) → word_at (length ws) (w ∷ ws) ≡ some w
-at_newest w ws = go (eqb (length ws) (length ws)) (eqb_refl (length ws))
-  where
-    go : (b : Bool) → T b → cond b (some w) (word_at (length ws) ws) ≡ some w
-    go true h = refl
-    go false h = absurd h
+at_newest w ws = cond-true (eqb (length ws) (length ws)) (some w) (word_at (length ws) ws) (eq-eqb (length ws) (length ws) refl)
 
 pub at_within : (a : ℕ) (ws : List Word) (w : Word) → word_at a ws ≡ some w → a < length ws
 at_within a [] w e = absurd (none-ne-some w e)

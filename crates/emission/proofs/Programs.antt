@@ -4,6 +4,8 @@ use mathlib.Core.List.{reverse_aux}
 use mathlib.Core.Option
 use mathlib.Core.Option.{Option, none, some, some-injective, none-ne-some}
 use lib.ListN.{length-reverse_aux}
+use mathlib.Core.List.{reverse_aux-append}
+use Rattle.std.proofs.lemmas.List.{map-append}
 use Rattle.token.specs.Tokens.{Token}
 use Rattle.trees.specs.Trees.{Name, Command, labelled, empty, assign, go_to, go_to_of, read, print, branch, Program}
 use Rattle.runs.specs.declared.instruction.Instruction.TheVariants.{Stop}
@@ -17,7 +19,6 @@ use Rattle.emission.specs.Table.{Translator, translator, translated}
 use Rattle.emission.specs.Control.{control_in}
 use Rattle.emission.specs.Laws.{Whole}
 use Rattle.emission.proofs.Drafted.{definitions_of, drafted}
-use Rattle.emission.proofs.Works.{onto_append, map_append}
 use Rattle.emission.proofs.Sizes.{drafted_is, drafted_size}
 use Rattle.emission.proofs.Controls.{control_reach}
 use Rattle.emission.proofs.Image.{words_all, labels_all, image, translated_is}
@@ -44,7 +45,7 @@ address_onto l (go_to_of x n ns) a ds e = refl
 address_onto l (read xs) a ds e = refl
 address_onto l (print es) a ds e = refl
 address_onto l (branch r f g c d) a ds e =
-    ap (λ z. address_in z l e) (onto_append (definitions_of (then_at a f g) c) (definitions_of (else_at a f g c) d) ds)
+    ap (λ z. address_in z l e) (reverse_aux-append (definitions_of (then_at a f g) c) (definitions_of (else_at a f g c) d) ds)
     ∙ address_onto l d (else_at a f g c) (reverse_aux (definitions_of (then_at a f g) c) ds) e
     ∙ address_onto l c (then_at a f g) ds (locate l (else_at a f g c) d e)
 
@@ -95,7 +96,7 @@ module _ (y : Layout) where
   all_words (then cs c) =
       (λ i. reverse_aux (drafted y (all_size cs i) (command_tree c)) (all_words cs i))
       ∙ ap (λ n. reverse_aux (drafted y n (command_tree c)) (reverse_aux (drafted_all 0 (listed cs)) [])) h
-      ∙ sym (onto_append (drafted_all 0 (listed cs)) (drafted y (0 + sizes (listed cs)) (command_tree c)) [])
+      ∙ sym (reverse_aux-append (drafted_all 0 (listed cs)) (drafted y (0 + sizes (listed cs)) (command_tree c)) [])
       ∙ ap (λ z. reverse_aux z []) (sym (drafted_more (listed cs) 0 (command_tree c)))
     where
       h : sizes (listed cs) ≡ 0 + sizes (listed cs)
@@ -105,7 +106,7 @@ module _ (y : Layout) where
   all_codes to [] a = refl
   all_codes to (c ∷ cs) a =
       ap (map (resolved to)) (append_assoc (drafted y a c) (drafted_all (a + size c) cs) (fixed Stop ∷ []))
-      ∙ map_append (resolved to) (drafted y a c) (drafted_all (a + size c) cs ++ fixed Stop ∷ [])
+      ∙ map-append (resolved to) (drafted y a c) (drafted_all (a + size c) cs ++ fixed Stop ∷ [])
       ∙ (λ i. drafted_is y to c a i ++ all_codes to cs (a + size c) i)
 
   all_labels : (l : Name) (cs : Statements) (e : ℕ) → address_in (labels_all y cs) l e ≡ locate_from l 0 (listed cs) e

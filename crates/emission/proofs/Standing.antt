@@ -1,6 +1,7 @@
 -- Between two tokens: what stands below the current state, and what it takes.
-use Rattle.std.proofs.Common.{◌≡◌, ℕ, suc, Bool, true, cond, eqb, List, [], ◌∷◌, ◌++◌, reverse, length, sym, refl, ap, ◌∙◌}
+use Rattle.std.proofs.Common.{◌≡◌, ℕ, suc, cond, eqb, List, [], ◌∷◌, ◌++◌, reverse, length, sym, refl, ap, ◌∙◌}
 use mathlib.Core.Option.{Option, none, some}
+use Rattle.std.proofs.lemmas.Bool.{cond-true}
 use Rattle.token.specs.Tokens.{Token, name, number, other}
 use Rattle.trees.specs.Trees.{Name}
 use Rattle.runs.specs.Code.{Layout}
@@ -46,10 +47,6 @@ no_row Operand n b = (refl, refl, refl)
 no_row AfterOperand n b = (refl, refl, refl)
 no_row Group n b = (refl, refl, refl)
 
--- a choice by a test that came out true
-when_true : {A : Type 0} {b : Bool} {x z : A} → b ≡ true → cond b x z ≡ z → x ≡ z
-when_true {A} {b} {x} {z} e f = ap (λ (c : Bool). cond c x z) (sym e) ∙ f
-
 module _ (y : Layout) where
   -- A token for which neither the current state nor those below have a row.
   passed : (t : Token) (s : Return) (k : List Return) (d : Draft) → choose (table s.state) t ≡ none → ((e : Draft) → draft_step y (translator k e) t ≡ none) →
@@ -62,11 +59,11 @@ module _ (y : Layout) where
 
   pub no_name : (k : List Return) (d : Draft) (n : Name) → AllBelow k → draft_step y (translator k d) (name n) ≡ none
   no_name [] d n a = refl
-  no_name (s ∷ k) d n a = passed (name n) s k d (when_true a.0 (no_row s.state n 0).0) (λ e. no_name k e n a.1)
+  no_name (s ∷ k) d n a = passed (name n) s k d (sym (cond-true _ _ _ a.0) ∙ (no_row s.state n 0).0) (λ e. no_name k e n a.1)
 
   pub no_number : (k : List Return) (d : Draft) (n : Name) → AllBelow k → draft_step y (translator k d) (number n) ≡ none
   no_number [] d n a = refl
-  no_number (s ∷ k) d n a = passed (number n) s k d (when_true a.0 (no_row s.state n 0).1) (λ e. no_number k e n a.1)
+  no_number (s ∷ k) d n a = passed (number n) s k d (sym (cond-true _ _ _ a.0) ∙ (no_row s.state n 0).1) (λ e. no_number k e n a.1)
 
   never_other : (k : List Return) (d : Draft) (b : ℕ) → draft_step y (translator k d) (other b) ≡ none
   never_other [] d b = refl

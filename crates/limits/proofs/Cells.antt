@@ -36,7 +36,7 @@ module _ (w : Words) where
       let a : not (is_label u.role) ≡ true = role_cell w u.role u.spelling ∙ c in
       rw (a, k)
 
-  cells_grow : (u : Use) (us : List Use) → cells w us ≤ cells w (u ∷ us)
+  pub cells_grow : (u : Use) (us : List Use) → cells w us ≤ cells w (u ∷ us)
   cells_grow u us = go (not (is_label u.role) && not (known w (key w u) us))
     where
       go : (b : Bool) → cells w us ≤ count_if b (cells w us)
