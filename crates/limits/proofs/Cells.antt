@@ -17,12 +17,12 @@ use Rattle.limits.proofs.Stands.{new_sound}
 use Rattle.limits.proofs.Search.{all_seen}
 
 -- a variable or a number word
-abbrev has_cell : Key → Bool
+abbrev pub has_cell : Key → Bool
 has_cell (label_key x) = false
 has_cell (variable_key x) = true
 has_cell (number_key n) = true
 
-role_cell : (w : Words) (r : Role) (s : List ℕ) → not (is_label r) ≡ has_cell (key_by w r s)
+pub role_cell : (w : Words) (r : Role) (s : List ℕ) → not (is_label r) ≡ has_cell (key_by w r s)
 role_cell w definition s = refl
 role_cell w target s = refl
 role_cell w listed s = refl
@@ -44,11 +44,11 @@ module _ (w : Words) where
       go false = omega arith
 
   -- the first use of a known symbol is further back, or it is this one
-  data Place (k : Key) (u : Use) (us : List Use) : Type 0 where
+  pub data Place (k : Key) (u : Use) (us : List Use) : Type 0 where
     older : known w k us ≡ true → Place k u us
     newest : known w k us ≡ false → key w u ≡ k → Place k u us
 
-  place_of : (k : Key) (u : Use) (us : List Use) → known w k (u ∷ us) ≡ true → Place k u us
+  pub place_of : (k : Key) (u : Use) (us : List Use) → known w k (u ∷ us) ≡ true → Place k u us
   place_of k u us e = go (way (known w k us))
     where
       go : Way (known w k us) → Place k u us
