@@ -1,11 +1,10 @@
 -- The draft of a whole program.
-use Rattle.std.proofs.Common.{◌≡◌, ℕ, ◌+◌, List, [], ◌∷◌, ◌++◌, map, length, sym, refl, ap, ◌∙◌, subst, append_assoc, append-nil, arith}
-use mathlib.Core.List.{reverse_aux}
+use Rattle.std.proofs.Common.{◌≡◌, ℕ, ◌+◌, List, [], ◌∷◌, ◌++◌, map, reverse, length, sym, refl, ap, ◌∙◌, subst, append_assoc, append-nil, arith}
+use mathlib.Core.List.{reverse_aux, reverse_aux-eq, reverse_aux-append}
 use mathlib.Core.Option
 use mathlib.Core.Option.{Option, none, some, some-injective, none-ne-some}
 use lib.ListN.{length-reverse_aux}
-use mathlib.Core.List.{reverse_aux-append}
-use Rattle.std.proofs.lemmas.List.{map-append}
+use Rattle.std.proofs.lemmas.List.{map-append, reverse-reverse}
 use Rattle.token.specs.Tokens.{Token}
 use Rattle.trees.specs.Trees.{Name, Command, labelled, empty, assign, go_to, go_to_of, read, print, branch, Program}
 use Rattle.runs.specs.declared.instruction.Instruction.TheVariants.{Stop}
@@ -22,10 +21,6 @@ use Rattle.emission.proofs.Drafted.{definitions_of, drafted}
 use Rattle.emission.proofs.Sizes.{drafted_is, drafted_size}
 use Rattle.emission.proofs.Controls.{control_reach}
 use Rattle.emission.proofs.Image.{words_all, labels_all, image, translated_is}
-
-turned : {A : Type 0} (xs es zs : List A) → reverse_aux (reverse_aux xs es) zs ≡ reverse_aux es (xs ++ zs)
-turned [] es zs = refl
-turned (x ∷ xs) es zs = turned xs (x ∷ es) zs
 
 -- the commands of a program in their order
 abbrev listed : Statements → List Command
@@ -133,7 +128,7 @@ module _ (y : Layout) where
   all_settled : (cs : Statements) → settled (draft_all cs) ≡ instructions y (program_tree cs)
   all_settled cs =
       ap (λ (z : List Word). map (resolved (label_address (draft_all cs))) (reverse_aux z (fixed Stop ∷ []))) (all_words cs)
-      ∙ ap (map (resolved (label_address (draft_all cs)))) (turned (drafted_all 0 (listed cs)) [] (fixed Stop ∷ []))
+      ∙ ap (map (resolved (label_address (draft_all cs)))) (reverse_aux-eq (reverse (drafted_all 0 (listed cs))) (fixed Stop ∷ []) ∙ ap (λ z. z ++ fixed Stop ∷ []) (reverse-reverse (drafted_all 0 (listed cs))))
       ∙ all_codes (label_address (draft_all cs)) (listed cs) 0
       ∙ (λ i. codes y (λ l. all_addresses cs l i) 0 (listed cs))
 

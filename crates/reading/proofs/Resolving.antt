@@ -2,6 +2,8 @@
 use Rattle.std.proofs.Common.{◌≡◌, ℕ, pred, ◌+◌, ◌*◌, ◌/◌, ◌%◌, ◌<◌, ◌≤◌, min, true, false, cond, eqb, List, [], ◌∷◌, map, reverse, length, sym, refl, ap, ◌∙◌, subst, arith}
 use mathlib.Core.List.{reverse_aux}
 use lib.ListN.{length-map}
+use mathlib.Mathlib.Data.List.Basic.{map-reverse_aux}
+use Rattle.std.proofs.lemmas.Bool.{true_from_ne_false}
 use Rattle.std.proofs.lemmas.Bool.Decides.{nat_tests}
 use Rattle.std.specs.List.{AllByRecursion as All}
 use Rattle.token.specs.Tokens.{Token, Placed}
@@ -21,7 +23,7 @@ use Rattle.limits.specs.Uses.{Role, definition, target, listed, variable_use, nu
 use Rattle.limits.specs.Rules.{code_limit, Clear, Met, tokens_of}
 use Rattle.limits.specs.Refusals.{among}
 use Rattle.limits.specs.Symbols.{first_cell, cells_before}
-use Rattle.limits.proofs.Keys.{Way, holds, fails, way, clash, known_sound, known_complete}
+use Rattle.limits.proofs.Keys.{clash, known_sound, known_complete}
 use Rattle.limits.proofs.Lists.{seen_earlier}
 use Rattle.limits.proofs.Search.{all_seen, somewhere_defined}
 use Rattle.limits.proofs.Cells.{variable_in, literal_in, few_cells}
@@ -134,26 +136,19 @@ pub by_label : (w : Words) (r : Role) (s l : List ℕ) → key_by w r s ≡ labe
 by_label w definition s l e = (refl, cc)
 by_label w target s l e = (refl, cc)
 by_label w listed s l e = (refl, cc)
-by_label w variable_use s l e = let z : ◌≡◌ {A = ℕ} 0 1 = cc in absurd (omega arith)
-by_label w number_use s l e = let z : ◌≡◌ {A = ℕ} 0 1 = cc in absurd (omega arith)
+by_label w variable_use s l e = grind arith
+by_label w number_use s l e = grind arith
 
 -- a label that is mentioned is among the definitions
 pub met_defined : (ts : List Token) → Met ts → (r : Role) (l : Name) → In (made r l) (uses ts) → is_label r ≡ true → among is_definition l (uses ts) ≡ true
-met_defined ts met r l i b = go (way (among is_definition l (uses ts)))
-  where
-    go : Way (among is_definition l (uses ts)) → among is_definition l (uses ts) ≡ true
-    go (holds e) = e
-    go (fails e) =
-        let k = seen_earlier ts r l (length ts) (rw (all_seen ts) i) in
-        absurd (met k.index (record { role = r; spelling = l; mentioned = k.used; label = b; nowhere = λ j u. clash (somewhere_defined ts l j u) e }))
-
-pub tokens_onto : (ts us : List Placed) → tokens_of (reverse_aux ts us) ≡ reverse_aux (tokens_of ts) (tokens_of us)
-tokens_onto [] us = refl
-tokens_onto (t ∷ ts) us = tokens_onto ts (t ∷ us)
+met_defined ts met r l i b =
+    let k = seen_earlier ts r l (length ts) (rw (all_seen ts) i) in
+    true_from_ne_false (among is_definition l (uses ts)) (λ e.
+    met k.index (record { role = r; spelling = l; mentioned = k.used; label = b; nowhere = λ j u. clash (somewhere_defined ts l j u) e }))
 
 -- the uses of all mentions are those of the tokens
 pub all_uses : (address : List Token → ℕ) (ts : List Placed) → uses_of (mentions_before address (reverse ts) []) ≡ uses (tokens_of ts)
-all_uses address ts = same_uses address (reverse ts) [] ∙ ap (λ z. uses_before z []) (tokens_onto ts [])
+all_uses address ts = same_uses address (reverse ts) [] ∙ ap (λ z. uses_before z []) (map-reverse_aux (λ (p : Placed). p.token) ts [])
 
 module _ (w : Words) (ts : List Placed) (address : List Token → ℕ) (t : Table) (d : Draft) (p : Program) (whole : Whole (layout w (tokens_of ts)) p d)
     (met : Met (tokens_of ts)) (short : here d ≤ code_limit) (held : Holds w t (mentions_before address (reverse ts) []))

@@ -138,12 +138,6 @@ open_take (suc N) (open_quiet o) = open_quiet (open_take N o)
 open_take (suc N) (open_line o) = open_line (open_take N o)
 open_take (suc N) (open_mark o) = open_mark (open_take N o)
 
-shut_some : {ts : List Tick} {e : Close} → Shut ts e → 1 ≤ length ts
-shut_some shut_last = omega arith
-shut_some (shut_quiet o) = omega arith
-shut_some (shut_line o) = omega arith
-shut_some (shut_mark o) = omega arith
-
 noted_every : (c : ℕ) (o : Observation) (ts : List Tick) → observed_from o (every (timed c ts)) ≡ all_noted o ts
 noted_every c o [] = refl
 noted_every c o (quiet ∷ ts) = noted_every (suc c) o ts
