@@ -6,7 +6,7 @@ use Rattle.trees.specs.Trees.{Name, Command, labelled, empty, assign, go_to, go_
 use Rattle.arithmetic.specs.Words.{Words, Lawful}
 use Rattle.host.specs.Meaning.{Meaning, first, taken, fits, marked}
 use Rattle.runs.specs.Names.{Store}
-use Rattle.runs.specs.Events.{World, Mark, number, line_end, Status, Running, Stopped, NoLine, NoPaper, Corrupt, Close, stop, no_line, no_paper, status_of, Event, line, mark, close, Observation, nothing, observe, observed_from, observed, Tick, quiet, does, Timed, timed, every}
+use Rattle.runs.specs.Events.{World, Mark, number, line_end, Status, Running, Stopped, NoLine, NoPaper, Corrupt, Close, status_of, Event, line, mark, close, Observation, nothing, observe, observed_from, observed, Tick, quiet, does, Timed, timed, every}
 use Rattle.runs.specs.Source.{value, cost, compared, holds, command, end_of_then, Continuation, then_read, then_print, quiets, Stage, at, ended, making, storing, dropping, choosing, picked, pick_cost, perform, step, units, stage, start, events}
 use Rattle.runs.specs.Machine.{Instruction, State, fetch, counted, count, loaded}
 use Rattle.runs.specs.Machine.{step as machine_step}
@@ -48,9 +48,7 @@ open_quiets zero = open_none
 open_quiets (suc n) = open_quiet (open_quiets n)
 
 closed_not_running : (e : Close) → status_of e ≢ Running
-closed_not_running stop w = grind arith
-closed_not_running no_line w = grind arith
-closed_not_running no_paper w = grind arith
+closed_not_running e w = grind arith
 
 -- a step, or a stretch of the run, leaves it open, or shuts it
 data Outcome (ts : List Tick) (t : Stage) : Type 0 where

@@ -15,18 +15,10 @@ module _ (W : World) (code : List ℕ) (used : ℕ) where
 
   -- a closed machine stands still, and counts nothing
   still_by : (t : Status) (o : Option Instruction) (m : State) → t ≢ Running → move W t o m ≡ m
-  still_by Running o m e = absurd (e refl)
-  still_by Stopped o m e = refl
-  still_by NoLine o m e = refl
-  still_by NoPaper o m e = refl
-  still_by (Corrupt a) o m e = refl
+  still_by t o m e = grind lin
 
   none_by : (t : Status) (o : Option Instruction) → t ≢ Running → counted t o ≡ 0
-  none_by Running o e = absurd (e refl)
-  none_by Stopped o e = refl
-  none_by NoLine o e = refl
-  none_by NoPaper o e = refl
-  none_by (Corrupt a) o e = refl
+  none_by t o e = grind lin
 
   pub still_step : (m : State) → m.status ≢ Running → step W code used m ≡ m
   still_step m e = still_by m.status (fetch code used m.address) m e
@@ -45,11 +37,7 @@ module _ (W : World) (code : List ℕ) (used : ℕ) where
 
   -- whether a run is open
   pub open_or_closed : (t : Status) → (t ≡ Running) ⊎ (t ≢ Running)
-  open_or_closed Running = inl refl
-  open_or_closed Stopped = inr (λ e. grind lin)
-  open_or_closed NoLine = inr (λ e. grind lin)
-  open_or_closed NoPaper = inr (λ e. grind lin)
-  open_or_closed (Corrupt a) = inr (λ e. grind lin)
+  open_or_closed t = grind lin
 
   -- while it is open, each step counts
   pub all_counted : (n : ℕ) (m : State) → (run W code used n m).status ≡ Running → count W code used n m ≡ n

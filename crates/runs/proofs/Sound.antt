@@ -8,9 +8,7 @@ use Rattle.std.proofs.lemmas.Bool.Decides.{nat_tests}
 use Rattle.std.specs.List.{AllByRecursion as All}
 use Rattle.trees.specs.Trees.{Name, Expr, variable, literal, binary, Command, labelled, empty, assign, go_to, go_to_of, read, print, branch}
 use Rattle.trees.specs.declared.operator.Operator.{Operator}
-use Rattle.trees.specs.declared.operator.Operator.TheVariants.{Plus as plus, Minus as minus, Times as times, Over as over}
 use Rattle.trees.specs.declared.relation.Relation.{Relation}
-use Rattle.trees.specs.declared.relation.Relation.TheVariants.{Greater as greater, Equal as equal, Less as less}
 use Rattle.runs.specs.Names.{same}
 use Rattle.runs.specs.Source.{operators, cost}
 use Rattle.runs.specs.Machine.{Instruction, Bru, Brz, Brn, Brp, Ada, Sub, Mul, Div, Lda, Sta, Read, Convert, Newline, Stop, operand, encode, decode, inside, allowed, asked, fetch}
@@ -55,36 +53,10 @@ Bound n u S Newline = Unit {0}
 Bound n u S Stop = Unit {0}
 
 bound_inside : (n u : ℕ) (S : ℕ → Type 0) (i : Instruction) → Bound n u S i → inside n u i ≡ true
-bound_inside n u S (Bru a) h = lt-ltb a n h
-bound_inside n u S (Brz a) h = lt-ltb a n h
-bound_inside n u S (Brn a) h = lt-ltb a n h
-bound_inside n u S (Brp a) h = lt-ltb a n h
-bound_inside n u S (Ada a) h = lt-ltb a u h
-bound_inside n u S (Sub a) h = lt-ltb a u h
-bound_inside n u S (Mul a) h = lt-ltb a u h
-bound_inside n u S (Div a) h = lt-ltb a u h
-bound_inside n u S (Lda a) h = lt-ltb a u h
-bound_inside n u S (Sta a) h = lt-ltb a u h.0
-bound_inside n u S Read h = refl
-bound_inside n u S Convert h = refl
-bound_inside n u S Newline h = refl
-bound_inside n u S Stop h = refl
+bound_inside n u S i h = grind arith
 
 bound_small : (n u : ℕ) (S : ℕ → Type 0) → n ≤ 4096 → u ≤ 4096 → (i : Instruction) → Bound n u S i → operand i < 4096
-bound_small n u S p q (Bru a) h = omega arith
-bound_small n u S p q (Brz a) h = omega arith
-bound_small n u S p q (Brn a) h = omega arith
-bound_small n u S p q (Brp a) h = omega arith
-bound_small n u S p q (Ada a) h = omega arith
-bound_small n u S p q (Sub a) h = omega arith
-bound_small n u S p q (Mul a) h = omega arith
-bound_small n u S p q (Div a) h = omega arith
-bound_small n u S p q (Lda a) h = omega arith
-bound_small n u S p q (Sta a) h = omega (arith, h.0)
-bound_small n u S p q Read h = omega arith
-bound_small n u S p q Convert h = omega arith
-bound_small n u S p q Newline h = omega arith
-bound_small n u S p q Stop h = omega arith
+bound_small n u S p q i h = grind arith
 
 -- what a word's instruction makes of it
 unmade : (n : ℕ) (i : Instruction) → decode n ≡ Some i → (encode i ≡ n) × (operand i < 4096)
@@ -180,20 +152,13 @@ module _ (k : Layout) (to : Name → ℕ) (n : ℕ) (fixed : 66 ≤ k.used) (jum
   B = Bound n k.used S
 
   cell_bound : (e : Expr) (t : ℕ) → t + operators e ≤ 66 → All V (variables_in e) → All L (literals_in e) → cell_of k t e < k.used
-  cell_bound (variable x) t h v m = v.0.0
-  cell_bound (literal ds) t h v m = m.0
-  cell_bound (binary o l r) t h v m = omega arith
+  cell_bound e t h v m = grind arith
 
   operating_bound : (o : Operator) (a : ℕ) → a < k.used → B (operating o a)
-  operating_bound plus a h = h
-  operating_bound minus a h = h
-  operating_bound times a h = h
-  operating_bound over a h = h
+  operating_bound o a h = grind arith
 
   branching_bound : (r : Relation) (a : ℕ) → a < n → B (branching r a)
-  branching_bound greater a h = h
-  branching_bound equal a h = h
-  branching_bound less a h = h
+  branching_bound r a h = grind arith
 
   ops_bound : (e : Expr) (t : ℕ) → 2 ≤ t → t + operators e ≤ 66 → All V (variables_in e) → All L (literals_in e) → All B (operations k t e)
   ops_bound (variable x) t g h v m = tt

@@ -120,11 +120,7 @@ module _ (W : World) (u E : ℕ) (S : ℕ → Type 0) where
   safe_do Stop m b o l f = record { fine = tt; within = l }
 
   safe_move : (t : Status) (i : Instruction) (m : State) → m.status ≡ t → Bound (suc E) u S i → (m.address < E) ⊎ (i ≡ Stop) → Safe m → Safe (move W t (Some i) m)
-  safe_move Running i m e b o s = safe_do i m b o s.within s.fine
-  safe_move Stopped i m e b o s = s
-  safe_move NoLine i m e b o s = s
-  safe_move NoPaper i m e b o s = s
-  safe_move (Corrupt a) i m e b o s = s
+  safe_move t i m e b o s = grind arith
 
 module _ (k : Layout) (p : Program) (placed : Placed k p) where
   abbrev end : ℕ

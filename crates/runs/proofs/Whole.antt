@@ -1,5 +1,5 @@
 -- The whole run: what is seen of n machine steps is what the source's events of running cost up to n add up to.
-use Rattle.std.proofs.Common.{◌≡◌, ℕ, zero, suc, ◌+◌, ◌-◌, ◌≤◌, Bool, true, false, cond, leb, ◌⊎◌, List, [], ◌∷◌, ◌++◌, length, take, ℤ, pos, negsuc, Some, None, Option, sym, refl, ap, ◌∙◌, subst, inl, inr, append_assoc, append-nil, suc-add, zero-add, arith, length-append}
+use Rattle.std.proofs.Common.{◌≡◌, ℕ, zero, suc, ◌+◌, ◌-◌, ◌≤◌, Bool, true, false, cond, leb, ◌⊎◌, List, [], ◌∷◌, ◌++◌, length, take, ℤ, Some, None, Option, sym, refl, ap, ◌∙◌, subst, inl, inr, append_assoc, append-nil, suc-add, zero-add, arith, length-append}
 use lib.ListN.{length-replicate}
 use Rattle.std.proofs.lemmas.Bool.Decides.{nat_tests}
 use lib.Seq.{take-nil}
@@ -63,9 +63,7 @@ costly_choosing true j c d r v h = record { some = simp (length-append, length-r
 costly_choosing false j c d r v h = record { some = simp (length-append, length-replicate) (omega arith) }
 
 costly_pick : (z : ℤ) (n : ℕ) (o : Option Name) → 1 ≤ pick_cost z (suc n) o
-costly_pick (pos k) n (Some l) = omega arith
-costly_pick (pos k) n None = omega arith
-costly_pick (negsuc k) n o = omega arith
+costly_pick z n o = grind arith
 
 module _ (W : World) (p : List Command) where
   -- the source run over n and then d steps
