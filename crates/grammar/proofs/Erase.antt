@@ -1,5 +1,5 @@
 -- The recogniser is the machine with its trees left out.
-use Rattle.std.proofs.Common.{◌≡◌, Bool, true, false, cond, T, List, [], ◌∷◌, sym, refl, ap, ◌∙◌}
+use Rattle.std.proofs.Common.{◌≡◌, Bool, true, false, cond, T, List, [], ◌∷◌, sym, refl, ap, ◌∙◌, arith}
 use mathlib.Core.Option.{Option, none, some, map}
 use Rattle.token.specs.Tokens.{Token}
 use Rattle.grammar.specs.Tests.{is, is_name, is_number, spelling}
@@ -103,20 +103,4 @@ pub reach_is : (ts : List Token) → reach ts ≡ map erase (run begun ts)
 reach_is ts = run_map erase rows stack_rows rows_erase (some begun) ts
 
 pub accepting_is : (c : Config) → T (accepting (some (erase c))) → (cs : Statements) × (c ≡ done cs)
-accepting_is (start k) h = absurd h
-accepting_is (labelling n k) h = absurd h
-accepting_is (let_word k) h = absurd h
-accepting_is (let_name n k) h = absurd h
-accepting_is (go_word k) h = absurd h
-accepting_is (to_word k) h = absurd h
-accepting_is (to_name n k) h = absurd h
-accepting_is (of_word n k) h = absurd h
-accepting_is (of_names n ns k) h = absurd h
-accepting_is (of_comma n ns k) h = absurd h
-accepting_is (read_word k) h = absurd h
-accepting_is (read_names ns k) h = absurd h
-accepting_is (read_comma ns k) h = absurd h
-accepting_is (print_word k) h = absurd h
-accepting_is (operand b k) h = absurd h
-accepting_is (after b f k) h = absurd h
-accepting_is (done cs) h = (cs, refl)
+accepting_is c h = grind arith

@@ -8,7 +8,7 @@ use Rattle.token.specs.Tokens.{Token, Placed}
 use Rattle.token.specs.Numbers.{word}
 use Rattle.trees.specs.Trees.{Name}
 use Rattle.arithmetic.specs.Words.{Words}
-use Rattle.limits.specs.Uses.{Role, definition, target, listed, variable_use, number_use, Use, made, In, use_at, with_use, uses_before, uses, is_label, Key, label_key, variable_key, number_key, same_key, key_by, key, known, count_if, cells, labels}
+use Rattle.limits.specs.Uses.{Role, variable_use, number_use, Use, made, In, use_at, with_use, uses_before, uses, is_label, Key, label_key, variable_key, number_key, same_key, key_by, key, known, count_if, cells, labels}
 use Rattle.limits.specs.Rules.{cell_limit, label_limit, past, rest, seen, no_cell, no_label, Clear, tokens_of}
 use Rattle.limits.specs.Symbols.{Symbol, first_cell, cells_before, cell, variable_cell, literal_cell, cells_used, symbol, entered, symbols_after, symbols}
 use Rattle.limits.proofs.Keys.{Way, holds, fails, way, clash, same_key_sound, known_complete}
@@ -23,11 +23,7 @@ has_cell (variable_key x) = true
 has_cell (number_key n) = true
 
 pub role_cell : (w : Words) (r : Role) (s : List ℕ) → not (is_label r) ≡ has_cell (key_by w r s)
-role_cell w definition s = refl
-role_cell w target s = refl
-role_cell w listed s = refl
-role_cell w variable_use s = refl
-role_cell w number_use s = refl
+role_cell w r s = grind arith
 
 module _ (w : Words) where
   -- a new symbol with a cell adds one
@@ -188,10 +184,7 @@ module _ (w : Words) (address : Name → ℕ) where
   count us = cells w us + labels w us
 
   counted : (a b : Bool) (c l : ℕ) → count_if (not a && not b) c + count_if (a && not b) l ≡ cond b (c + l) (suc (c + l))
-  counted true true c l = refl
-  counted true false c l = omega arith
-  counted false true c l = refl
-  counted false false c l = omega arith
+  counted a b c l = grind arith
 
   entered_count : (us : List Use) (p : ℕ) (o : Option Use) (ss : List Symbol) →
       count (with_use o us) + length ss ≡ count us + length (entered w address us p o ss)

@@ -3,7 +3,7 @@ use Rattle.grammar.specs.declared.state.State.{State}
 use Rattle.grammar.specs.declared.state.State.TheVariants.{Next}
 use Rattle.token.specs.declared.kinds.Keyword.TheVariants.{Let, Go, To, Of, Read, Print, If, Then, Else}
 use Rattle.token.specs.declared.kinds.Sign.TheVariants.{Semicolon, Becomes, Open, Close, Comma}
-use Rattle.std.proofs.Common.{◌≡◌, ℕ, zero, suc, pred, ◌+◌, ◌<◌, ◌≤◌, Bool, true, false, cond, List, [], ◌∷◌, reverse, length, sym, refl, ap, ◌∙◌, subst, inl, inr, zero-le, le_trans, arith}
+use Rattle.std.proofs.Common.{◌≡◌, ℕ, zero, suc, pred, ◌+◌, ◌<◌, ◌≤◌, Bool, true, false, cond, List, [], ◌∷◌, reverse, length, sym, refl, ap, ◌∙◌, subst, inl, inr, arith}
 use mathlib.Core.Option.{Option, none, some, map, some-injective, none-ne-some}
 use Rattle.std.proofs.lemmas.Bool.{cases_lt}
 use Rattle.token.specs.Tokens.{Token, name, keyword, sign}
@@ -18,7 +18,6 @@ use Rattle.grammar.proofs.Erase.{erase_c, erase_e, erase, reach_is}
 use Rattle.limits.specs.Uses.{command_starts, after_of, before_of, name_role, in_expression, depth, Part, in_then, in_else, after_else, parts}
 use Rattle.limits.specs.Rules.{depth_limit, past, rest, Rule, deep_parenthesis, deep_if}
 use Rattle.limits.specs.States.{state_role}
-use Rattle.std.proofs.Math.Nat.{pred-le}
 use Rattle.limits.proofs.Lists.{take_end, past_next}
 use Rattle.limits.proofs.Scans.{factor_b, term_b, sum_b, left_b, term_after_of, sum_after_of, Plain, plain_role, mul_plain, add_plain, relation_plain, listing_role}
 use Rattle.limits.proofs.Fitting.{labels_of}
@@ -186,10 +185,7 @@ depth_step : (t : Token) (b : List Token) → depth b ≤ depth_limit → (is (s
 depth_step t b h g = go (is (sign Open) t) (is (sign Close) t) (in_expression t) g
   where
     go : (x y z : Bool) → (x ≡ true → depth b < depth_limit) → cond x (suc (depth b)) (cond y (pred (depth b)) (cond z (depth b) 0)) ≤ depth_limit
-    go true y z f = f refl
-    go false true z f = le_trans (pred-le (depth b)) h
-    go false false true f = h
-    go false false false f = zero-le
+    go x y z f = grind arith
 
 after_else_shorter : (ps : List Part) → length (after_else ps) ≤ length ps
 after_else_shorter [] = omega arith
