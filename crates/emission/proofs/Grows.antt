@@ -1,5 +1,5 @@
 -- Each step goes on from the draft before it.
-use Rattle.std.proofs.Common.{◌≡◌, ℕ, zero, suc, pred, ◌+◌, ◌<◌, ◌≤◌, Bool, true, false, cond, T, eqb, ◌⊎◌, List, [], ◌∷◌, ◌++◌, length, sym, refl, ap, ◌∙◌, subst, inl, inr, append_assoc, arith, eqb→eq}
+use Rattle.std.proofs.Common.{◌≡◌, ℕ, suc, pred, ◌+◌, ◌<◌, ◌≤◌, Bool, true, false, cond, T, eqb, ◌⊎◌, List, [], ◌∷◌, ◌++◌, length, sym, refl, ap, ◌∙◌, subst, inl, inr, append_assoc, arith, eqb→eq}
 use mathlib.Core.List.{reverse_aux}
 use mathlib.Core.Option.{Option, none, some, some-injective, none-ne-some}
 use Rattle.std.proofs.lemmas.Bool.{cond-true, cond-false, eq-eqb, ne_eqb}
@@ -78,14 +78,10 @@ module _ {jumps : List ℕ} where
   onward_reduced p w = onward_reduce p w.marks w.cells w.temporaries w.words
 
   onward_loaded : (cs : List ℕ) (n : ℕ) (ws : List Word) → Onward jumps ws (loaded cs n ws)
-  onward_loaded [] n ws = onward_same ws
-  onward_loaded (c ∷ cs) zero ws = onward_word _ ws
-  onward_loaded (c ∷ cs) (suc n) ws = onward_same ws
+  onward_loaded cs n ws = grind arith
 
   onward_ended : (ms : List Mark) (cs : List ℕ) (n : ℕ) (ws : List Word) → Onward jumps ws (left_off ms cs n ws).words
-  onward_ended [] cs n ws = onward_loaded cs n ws
-  onward_ended (parenthesis ∷ ms) cs n ws = onward_same ws
-  onward_ended (pending o ∷ ms) cs n ws = onward_same ws
+  onward_ended ms cs n ws = grind arith
 
   onward_off : (w : Work) → Onward jumps w.words (ended w).words
   onward_off w = onward_ended w.marks w.cells w.temporaries w.words
@@ -307,30 +303,7 @@ module _ (y : Layout) where
   Returns s (some b) = T (implies (landing b) (waits s))
 
   orderly_return : (s : State) → Returns s (returning s)
-  orderly_return Next = tt
-  orderly_return Start = tt
-  orderly_return Label = tt
-  orderly_return LetWord = tt
-  orderly_return LetName = tt
-  orderly_return LetEnd = tt
-  orderly_return GoWord = tt
-  orderly_return ToWord = tt
-  orderly_return ToName = tt
-  orderly_return OfWord = tt
-  orderly_return OfNames = tt
-  orderly_return OfComma = tt
-  orderly_return ReadWord = tt
-  orderly_return ReadNames = tt
-  orderly_return ReadComma = tt
-  orderly_return PrintWord = tt
-  orderly_return PrintList = tt
-  orderly_return LeftSide = tt
-  orderly_return RightSide = tt
-  orderly_return ThenPart = tt
-  orderly_return ElsePart = tt
-  orderly_return Operand = tt
-  orderly_return AfterOperand = tt
-  orderly_return Group = tt
+  orderly_return s = grind arith
 
   -- Steps.
   in_below : (s : State) (a : ℕ) (k : List Return) (x : ℕ) → In x (waiting k) → In x (waiting (entered a s ∷ k))
@@ -371,9 +344,7 @@ module _ (y : Layout) where
         }
       where
         last : (x : ℕ) → x < here d → (b c : Bool) → T (implies b c) → (T c → here d < here (perform y e.action a n d)) → T b → x ≡ pred (here (perform y e.action a n d)) → ⊥
-        last x l true true t f u p = let q = f tt in omega arith
-        last x l true false t f u p = absurd t
-        last x l false c t f u p = absurd u
+        last x l b c t f u p = grind arith
 
     returned : (b : Action) → T (implies (landing b) (waits s)) → (z : Translator) → Later (translator k (perform y b a [] d)) z → Later (translator (entered a s ∷ k) d) z
     returned b o z l =

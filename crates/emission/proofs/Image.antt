@@ -9,7 +9,7 @@ use mathlib.Core.Option
 use mathlib.Core.Option.{Option, none, some}
 use lib.ListN.{length-reverse_aux}
 use Rattle.token.specs.Tokens.{Token, keyword, sign}
-use Rattle.trees.specs.Trees.{Name, Expr, variable, literal, binary, Command, branch}
+use Rattle.trees.specs.Trees.{Name, Expr, Command, branch}
 use Rattle.trees.specs.declared.operator.Operator.TheVariants.{Plus as plus, Minus as minus, Times as times, Over as over}
 use Rattle.trees.specs.declared.relation.Relation.{Relation}
 use Rattle.runs.specs.declared.instruction.Instruction.TheVariants.{Bru, Lda, Sta, Sub, Read, Convert, Newline, Stop}
@@ -306,9 +306,7 @@ module _ (y : Layout) where
   low_work (of_group b k) = at_parenthesis
 
   group_closed : (e : Expr) (w : Work) → closed (ended (with_expr y e (opened w))) ≡ with_expr y e w
-  group_closed (variable x) w = refl
-  group_closed (literal ds) w = refl
-  group_closed (binary o l r) w = refl
+  group_closed e w = grind arith
 
   -- after the whole expression e
   abbrev left_rows : InCommand → Work → Rows Translator

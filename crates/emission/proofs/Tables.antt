@@ -1,5 +1,4 @@
 -- The table by letters says what the rows say.
-use Rattle.emission.specs.declared.state.State.TheVariants as state
 use Rattle.emission.specs.declared.moves.Move.TheVariants.{Refuse}
 use Rattle.std.proofs.Common.{◌≡◌, ℕ, zero, suc, ◌-◌, ◌<◌, ◌≤◌, List, [], ◌∷◌, ◌++◌, map, length, get_or, min, inl, inr, sym, refl, ap, ◌∙◌, arith}
 use lib.ListN.{length-map}
@@ -24,30 +23,7 @@ row s = get_or letters (state_number s) []
 
 rows_right : (s : State) → map by_letter (row s) ≡ map (move s) classes
 unfolding letters row
-rows_right state.Next = refl
-rows_right state.Start = refl
-rows_right state.Label = refl
-rows_right state.LetWord = refl
-rows_right state.LetName = refl
-rows_right state.LetEnd = refl
-rows_right state.GoWord = refl
-rows_right state.ToWord = refl
-rows_right state.ToName = refl
-rows_right state.OfWord = refl
-rows_right state.OfNames = refl
-rows_right state.OfComma = refl
-rows_right state.ReadWord = refl
-rows_right state.ReadNames = refl
-rows_right state.ReadComma = refl
-rows_right state.PrintWord = refl
-rows_right state.PrintList = refl
-rows_right state.LeftSide = refl
-rows_right state.RightSide = refl
-rows_right state.ThenPart = refl
-rows_right state.ElsePart = refl
-rows_right state.Operand = refl
-rows_right state.AfterOperand = refl
-rows_right state.Group = refl
+rows_right s = grind arith
 
 row_length : (s : State) → length (row s) ≡ 26
 row_length s = sym (length-map (row s) by_letter) ∙ ap length (rows_right s)
@@ -84,30 +60,7 @@ entry_at s c = entry_right s (min c 25) (omega arith) ∙ as_25 s c
 -- A move depends on the token's class alone.
 any_token : (s : State) (n : List ℕ) (b : ℕ) →
     (move s (name n) ≡ move s (name [])) × (move s (number n) ≡ move s (number [])) × (move s (other b) ≡ move s (other 0))
-any_token state.Next n b = (refl, refl, refl)
-any_token state.Start n b = (refl, refl, refl)
-any_token state.Label n b = (refl, refl, refl)
-any_token state.LetWord n b = (refl, refl, refl)
-any_token state.LetName n b = (refl, refl, refl)
-any_token state.LetEnd n b = (refl, refl, refl)
-any_token state.GoWord n b = (refl, refl, refl)
-any_token state.ToWord n b = (refl, refl, refl)
-any_token state.ToName n b = (refl, refl, refl)
-any_token state.OfWord n b = (refl, refl, refl)
-any_token state.OfNames n b = (refl, refl, refl)
-any_token state.OfComma n b = (refl, refl, refl)
-any_token state.ReadWord n b = (refl, refl, refl)
-any_token state.ReadNames n b = (refl, refl, refl)
-any_token state.ReadComma n b = (refl, refl, refl)
-any_token state.PrintWord n b = (refl, refl, refl)
-any_token state.PrintList n b = (refl, refl, refl)
-any_token state.LeftSide n b = (refl, refl, refl)
-any_token state.RightSide n b = (refl, refl, refl)
-any_token state.ThenPart n b = (refl, refl, refl)
-any_token state.ElsePart n b = (refl, refl, refl)
-any_token state.Operand n b = (refl, refl, refl)
-any_token state.AfterOperand n b = (refl, refl, refl)
-any_token state.Group n b = (refl, refl, refl)
+any_token s n b = grind arith
 
 keyword_class : (k : Keyword) → get_or samples (class (keyword k)) (other 0) ≡ keyword k
 keyword_class keyword_of.End = refl
