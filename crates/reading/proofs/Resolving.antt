@@ -72,20 +72,7 @@ abbrev pub Anywhere : ℕ → Type 0
 Anywhere c = Unit {0}
 
 fixed_word : (ss : List Symbol) (u : ℕ) → u ≤ 512 → (i : Instruction) → Bound 4096 u Anywhere i → settled_word ss (instruction_word i) ≡ encode i
-fixed_word ss u l (Bru a) h = left_alone ss 0 a (omega arith) h
-fixed_word ss u l (Brz a) h = left_alone ss 1 a (omega arith) h
-fixed_word ss u l (Brn a) h = left_alone ss 2 a (omega arith) h
-fixed_word ss u l (Brp a) h = left_alone ss 3 a (omega arith) h
-fixed_word ss u l (Ada a) h = left_alone ss 4 a (omega arith) (omega arith)
-fixed_word ss u l (Sub a) h = left_alone ss 5 a (omega arith) (omega arith)
-fixed_word ss u l (Mul a) h = left_alone ss 6 a (omega arith) (omega arith)
-fixed_word ss u l (Div a) h = left_alone ss 7 a (omega arith) (omega arith)
-fixed_word ss u l (Lda a) h = left_alone ss 8 a (omega arith) (omega arith)
-fixed_word ss u l (Sta a) h = left_alone ss 9 a (omega arith) (omega (arith, h.0))
-fixed_word ss u l Read h = refl
-fixed_word ss u l Convert h = refl
-fixed_word ss u l Newline h = refl
-fixed_word ss u l Stop h = refl
+fixed_word ss u l i h = grind arith
 
 -- a jump to a label gets the label's address, which is below 4,096
 jump_word : (ss : List Symbol) (n a : ℕ) → n < 4096 → a < 4096 → address_at ss n ≡ a → settled_word ss (packed jump_operation n) ≡ encode (Bru a)
@@ -133,11 +120,7 @@ bounded w ts p clear parses short =
 
 -- a use with a label's key is one of the label
 pub by_label : (w : Words) (r : Role) (s l : List ℕ) → key_by w r s ≡ label_key l → (is_label r ≡ true) × (s ≡ l)
-by_label w definition s l e = (refl, cc)
-by_label w target s l e = (refl, cc)
-by_label w listed s l e = (refl, cc)
-by_label w variable_use s l e = grind arith
-by_label w number_use s l e = grind arith
+by_label w r s l e = grind arith
 
 -- a label that is mentioned is among the definitions
 pub met_defined : (ts : List Token) → Met ts → (r : Role) (l : Name) → In (made r l) (uses ts) → is_label r ≡ true → among is_definition l (uses ts) ≡ true

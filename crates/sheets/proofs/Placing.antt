@@ -29,20 +29,7 @@ use Rattle.sheets.proofs.Values as value
 -- words of 16 bits
 
 low_opcode : (i : Instruction) → opcode i ≤ 10
-low_opcode (Bru a) = omega arith
-low_opcode (Brz a) = omega arith
-low_opcode (Brn a) = omega arith
-low_opcode (Brp a) = omega arith
-low_opcode (Ada a) = omega arith
-low_opcode (Sub a) = omega arith
-low_opcode (Mul a) = omega arith
-low_opcode (Div a) = omega arith
-low_opcode (Lda a) = omega arith
-low_opcode (Sta a) = omega arith
-low_opcode Read = omega arith
-low_opcode Convert = omega arith
-low_opcode Newline = omega arith
-low_opcode Stop = omega arith
+low_opcode i = grind arith
 
 short_word : (i : Instruction) (n : ℕ) → decode n ≡ Some i → n < 65536
 short_word i n e =

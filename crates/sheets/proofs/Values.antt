@@ -21,11 +21,7 @@ held_by (number_key n) = n
 
 module _ (w : Words) where
   role_holds : (r : Role) (s : List ℕ) → first_value w r s ≡ held_by (key_by w r s)
-  role_holds definition s = refl
-  role_holds target s = refl
-  role_holds listed s = refl
-  role_holds variable_use s = refl
-  role_holds number_use s = refl
+  role_holds r s = grind arith
 
   pub length_values : (us : List Use) → length (first_values w us) ≡ cells w us
   length_values [] = refl
