@@ -77,9 +77,6 @@ module _ {jumps : List ℕ} where
   onward_reduced : (p : Operator → Bool) (w : Work) → Onward jumps w.words (reduced p w).words
   onward_reduced p w = onward_reduce p w.marks w.cells w.temporaries w.words
 
-  onward_loaded : (cs : List ℕ) (n : ℕ) (ws : List Word) → Onward jumps ws (loaded cs n ws)
-  onward_loaded cs n ws = grind arith
-
   onward_ended : (ms : List Mark) (cs : List ℕ) (n : ℕ) (ws : List Word) → Onward jumps ws (left_off ms cs n ws).words
   onward_ended ms cs n ws = grind arith
 

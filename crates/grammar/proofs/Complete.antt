@@ -10,7 +10,7 @@ use Rattle.trees.specs.declared.relation.Relation.TheVariants.{Greater as greate
 use Rattle.grammar.specs.Tests.{is}
 use Rattle.grammar.specs.Grammar.{relation_sign}
 use Rattle.grammar.specs.Concrete.{AddSign, MulSign, Factor, var, lit, group, Term, factor, multiply, Sum, term, add, sole, then, Names, Sums, Statement, label, nil, set, jump, pick, read_none, read_some, print_none, print_some, test, Statements, add_sign, mul_sign, factor_t, term_t, sum_t, names_t, sums_t, statement_t, statements_t, program_t}
-use Rattle.grammar.specs.Machine.{InCommands, first_command, after_commands, under_label, then_part, else_part, BeforeTerm, no_sum, sum, BeforeFactor, no_product, product, InCommand, of_assign, of_left, of_right, of_print, of_prints, of_group, Config, start, to_name, of_word, of_names, read_word, read_names, print_word, operand, after, done, choose, whole_of, fresh, next, finish, more_print, leave, rows, step, go_on, run, begun}
+use Rattle.grammar.specs.Machine.{InCommands, first_command, after_commands, under_label, then_part, else_part, BeforeTerm, no_sum, sum, BeforeFactor, no_product, product, InCommand, of_assign, of_left, of_right, of_print, of_prints, of_group, Config, start, to_name, of_word, of_names, read_word, read_names, print_word, operand, after, done, choose, fresh, next, finish, more_print, leave, rows, step, go_on, run, begun}
 
 abbrev after_term : BeforeTerm → Term → InCommand → Config
 after_term s (factor f) k = after (no_product s) f k
@@ -32,9 +32,6 @@ record Quiet (t : Token) : Type 0 where
   over_no : is (sign Over) t ≡ false
   plus_no : is (sign Plus) t ≡ false
   minus_no : is (sign Minus) t ≡ false
-
-after_leave : (b : BeforeFactor) (f : Factor) (k : InCommand) {t : Token} → Quiet t → step (after b f k) t ≡ choose (leave (whole_of b f) k) t
-after_leave b f k q = rw (q.times_no, q.over_no, q.plus_no, q.minus_no)
 
 leave_next : (e : Sum) (k : InCommand) {t : Token} → Quiet t → step (after_expr e k) t ≡ choose (leave e k) t
 leave_next e k q = grind arith

@@ -60,13 +60,6 @@ taken_apart ss o a h =
     let y : (o * 4096 + a) % 4096 ≡ a = omega arith in
     ap (settled_word ss) v ∙ (λ i. settled_as ss (x i) (y i) (o * 4096 + a))
 
--- an instruction stays as it is
-left_alone : (ss : List Symbol) (o a : ℕ) → o ≤ 10 → a < 4096 → settled_word ss (packed o a) ≡ o * 4096 + a
-left_alone ss o a l h =
-    let p : eqb o 11 ≡ false = grind (arith, nat_tests) in
-    let q : eqb o 12 ≡ false = grind (arith, nat_tests) in
-    taken_apart ss o a h ∙ (λ i. cond (p i) (packed 0 (address_at ss a)) (cond (q i) (packed 1 (address_at ss a)) (o * 4096 + a)))
-
 -- any cell may be written
 abbrev pub Anywhere : ℕ → Type 0
 Anywhere c = Unit {0}
