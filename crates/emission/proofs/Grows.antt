@@ -13,9 +13,9 @@ use Rattle.grammar.specs.Tests.{is, is_name, is_number, spelling}
 use Rattle.grammar.specs.Machine.{Rows, stop, on, at_name, at_number, choose, go_on}
 use Rattle.grammar.proofs.Theorems.{run_append}
 use Rattle.limits.specs.Uses.{In, at_head, in_tail}
-use Rattle.emission.specs.Draft.{Word, fixed, Mark, pending, parenthesis, Work, work, Definition, Draft, words_of, here, patch, operation, any, binds, reduce, reduced, loaded, ended, left_off}
+use Rattle.emission.specs.Draft.{Word, fixed, Mark, pending, parenthesis, Work, work, Definition, Draft, words_of, here, patch, operation, any, binds, reduce, reduced, ended, left_off}
 use Rattle.emission.specs.Actions.{Action, Nothing, DefineLabel, SetTarget, StoreTarget, KeepName, JumpToName, LoadName, FirstLabel, FurtherLabel, ReadName, SkipLine, PrintValue, EndLine, PushVariable, PushNumber, OpenGroup, CloseGroup, Operate, EndExpression, Compare, BeginThen, BeginElse, EndElse, EndProgram, perform}
-use Rattle.emission.specs.Table.{State, Next, Start, Label, LetWord, LetName, LetEnd, GoWord, ToWord, ToName, OfWord, OfNames, OfComma, ReadWord, ReadNames, ReadComma, PrintWord, PrintList, LeftSide, RightSide, ThenPart, ElsePart, Operand, AfterOperand, Group, Entry, table, returning, Return, entered, all_entered, Translator, translator, follow, above, if_returning, draft_rows, translator_rows, draft_step, outset, translated}
+use Rattle.emission.specs.Table.{State, Entry, table, returning, Return, entered, all_entered, Translator, translator, follow, above, if_returning, draft_rows, translator_rows, draft_step, outset, translated}
 use Rattle.emission.specs.Growth.{word_at, waits, waiting, Stays, as_it_was, lands, Onward, Later}
 use Rattle.emission.proofs.Sizes.{patch_length}
 
@@ -223,30 +223,7 @@ module _ (y : Layout) where
 
   -- one that ends with a jump adds a word
   jumped : (b : Action) (a : ℕ) (n : Name) (d : Draft) → T (jumping b) → here d < here (perform y b a n d)
-  jumped Nothing a n d h = absurd h
-  jumped DefineLabel a n d h = absurd h
-  jumped SetTarget a n d h = absurd h
-  jumped StoreTarget a n d h = absurd h
-  jumped KeepName a n d h = absurd h
-  jumped JumpToName a n d h = absurd h
-  jumped LoadName a n d h = absurd h
-  jumped FirstLabel a n d h = absurd h
-  jumped FurtherLabel a n d h = absurd h
-  jumped ReadName a n d h = absurd h
-  jumped SkipLine a n d h = absurd h
-  jumped PrintValue a n d h = absurd h
-  jumped EndLine a n d h = absurd h
-  jumped PushVariable a n d h = absurd h
-  jumped PushNumber a n d h = absurd h
-  jumped OpenGroup a n d h = absurd h
-  jumped CloseGroup a n d h = absurd h
-  jumped (Operate o) a n d h = absurd h
-  jumped EndExpression a n d h = absurd h
-  jumped (Compare r) a n d h = absurd h
-  jumped BeginThen a n d h = omega arith
-  jumped BeginElse a n d h = let e = patch_length (pred a) (suc (here d)) (fixed (Bru 0) ∷ words_of d) in omega arith
-  jumped EndElse a n d h = absurd h
-  jumped EndProgram a n d h = absurd h
+  jumped b a n d h = grind (arith, patch_length)
 
   -- Entries: a state gives an address only to a jump of its own, and one that waits is put on the stack only behind a jump.
   abbrev any_waits : List State → Bool
@@ -266,34 +243,8 @@ module _ (y : Layout) where
   Entries P (at_name f z) = ((n : Name) → P (f n)) × Entries P z
   Entries P (at_number f z) = ((n : Name) → P (f n)) × Entries P z
 
-  fine : {s : State} {e : Entry} → T (implies (landing e.action) (waits s)) → T (implies (any_waits e.states) (jumping e.action)) → Orderly s e
-  fine p q = record { own = p; behind = q }
-
   orderly : (s : State) → Entries (Orderly s) (table s)
-  orderly Next = (fine tt tt, (fine tt tt, tt))
-  orderly Start = (λ n. fine tt tt, (fine tt tt, (fine tt tt, (fine tt tt, (fine tt tt, (fine tt tt, tt))))))
-  orderly Label = (fine tt tt, tt)
-  orderly LetWord = (λ n. fine tt tt, tt)
-  orderly LetName = (fine tt tt, tt)
-  orderly LetEnd = tt
-  orderly GoWord = (fine tt tt, tt)
-  orderly ToWord = (λ n. fine tt tt, tt)
-  orderly ToName = (fine tt tt, tt)
-  orderly OfWord = (λ n. fine tt tt, tt)
-  orderly OfNames = (fine tt tt, tt)
-  orderly OfComma = (λ n. fine tt tt, tt)
-  orderly ReadWord = (λ n. fine tt tt, tt)
-  orderly ReadNames = (fine tt tt, tt)
-  orderly ReadComma = (λ n. fine tt tt, tt)
-  orderly PrintWord = (λ n. fine tt tt, (λ n. fine tt tt, (fine tt tt, tt)))
-  orderly PrintList = (fine tt tt, tt)
-  orderly LeftSide = (fine tt tt, (fine tt tt, (fine tt tt, tt)))
-  orderly RightSide = (fine tt tt, tt)
-  orderly ThenPart = (fine tt tt, tt)
-  orderly ElsePart = tt
-  orderly Operand = (λ n. fine tt tt, (λ n. fine tt tt, (fine tt tt, tt)))
-  orderly AfterOperand = (fine tt tt, (fine tt tt, (fine tt tt, (fine tt tt, tt))))
-  orderly Group = (fine tt tt, tt)
+  orderly s = grind arith
 
   abbrev Returns : State → Option Action → Type 0
   Returns s none = Unit {0}

@@ -6,7 +6,6 @@ use mathlib.Core.Option.{Option, some}
 use Rattle.token.specs.Tokens.{Token, name, keyword, sign}
 use Rattle.trees.specs.Trees.{Name}
 use Rattle.trees.specs.declared.relation.Relation.{Relation}
-use Rattle.trees.specs.declared.relation.Relation.TheVariants.{Greater as greater, Equal as equal, Less as less}
 use Rattle.grammar.specs.Tests.{is}
 use Rattle.grammar.specs.Grammar.{relation_sign}
 use Rattle.grammar.specs.Concrete.{AddSign, MulSign, Factor, var, lit, group, Term, factor, multiply, Sum, term, add, sole, then, Names, Sums, Statement, label, nil, set, jump, pick, read_none, read_some, print_none, print_some, test, Statements, add_sign, mul_sign, factor_t, term_t, sum_t, names_t, sums_t, statement_t, statements_t, program_t}
@@ -68,9 +67,7 @@ data Ends : Token → Type 0 where
   at_else : Ends (keyword Else)
 
 ends_quiet : {t : Token} → Ends t → Quiet t
-ends_quiet at_semi = record { times_no = refl; over_no = refl; plus_no = refl; minus_no = refl }
-ends_quiet at_end = record { times_no = refl; over_no = refl; plus_no = refl; minus_no = refl }
-ends_quiet at_else = record { times_no = refl; over_no = refl; plus_no = refl; minus_no = refl }
+ends_quiet h = grind arith
 
 ends_no_comma : {t : Token} → Ends t → is (sign Comma) t ≡ false
 ends_no_comma h = grind arith
@@ -104,9 +101,7 @@ quiet_then : Quiet (keyword Then)
 quiet_then = record { times_no = refl; over_no = refl; plus_no = refl; minus_no = refl }
 
 quiet_relation : (o : Relation) → Quiet (relation_sign o)
-quiet_relation greater = record { times_no = refl; over_no = refl; plus_no = refl; minus_no = refl }
-quiet_relation equal = record { times_no = refl; over_no = refl; plus_no = refl; minus_no = refl }
-quiet_relation less = record { times_no = refl; over_no = refl; plus_no = refl; minus_no = refl }
+quiet_relation o = grind arith
 
 relation_next : (a : Sum) (o : Relation) (k : InCommands) → choose (leave a (of_left k)) (relation_sign o) ≡ some (operand fresh (of_right a o k))
 relation_next a o k = grind arith

@@ -1,10 +1,9 @@
 -- The words of a whole draft, coded and settled, are the code of its program.
-use Rattle.std.proofs.Common.{◌≡◌, ℕ, pred, ◌+◌, ◌*◌, ◌/◌, ◌%◌, ◌<◌, ◌≤◌, min, true, false, cond, eqb, List, [], ◌∷◌, map, reverse, length, sym, refl, ap, ◌∙◌, subst, arith}
+use Rattle.std.proofs.Common.{◌≡◌, ℕ, pred, ◌+◌, ◌*◌, ◌/◌, ◌%◌, ◌<◌, ◌≤◌, min, true, cond, eqb, List, [], ◌∷◌, map, reverse, length, sym, refl, ap, ◌∙◌, subst, arith}
 use mathlib.Core.List.{reverse_aux}
 use lib.ListN.{length-map}
 use mathlib.Mathlib.Data.List.Basic.{map-reverse_aux}
 use Rattle.std.proofs.lemmas.Bool.{true_from_ne_false}
-use Rattle.std.proofs.lemmas.Bool.Decides.{nat_tests}
 use Rattle.std.specs.List.{AllByRecursion as All}
 use Rattle.token.specs.Tokens.{Token, Placed}
 use Rattle.trees.specs.Trees.{Name, Program, commands}
@@ -12,14 +11,14 @@ use Rattle.arithmetic.specs.Words.{Words}
 use Rattle.grammar.specs.Grammar.{Parses}
 use Rattle.grammar.proofs.Theorems.{one_reading}
 use Rattle.runs.specs.declared.instruction.Instruction.{Instruction}
-use Rattle.runs.specs.declared.instruction.Instruction.TheVariants.{Bru, Brz, Brn, Brp, Ada, Sub, Mul, Div, Lda, Sta, Read, Convert, Newline, Stop}
+use Rattle.runs.specs.declared.instruction.Instruction.TheVariants.{Bru, Brz}
 use Rattle.runs.specs.Machine.{encode}
 use Rattle.runs.specs.Code.{program_size, address_of, instructions, code_of}
 use Rattle.runs.specs.Placed.{variables, literals, wholes, collected}
 use Rattle.runs.proofs.Basics.{all_among}
 use Rattle.runs.proofs.Sound.{Bound, codes_size, codes_bound}
 use Rattle.runs.proofs.Stands.{code_is_sound_lem}
-use Rattle.limits.specs.Uses.{Role, definition, target, listed, variable_use, number_use, Use, made, In, uses_before, uses, is_definition, is_label, Key, label_key, key_by, key, known}
+use Rattle.limits.specs.Uses.{Role, variable_use, number_use, Use, made, In, uses_before, uses, is_definition, is_label, Key, label_key, key_by, key, known}
 use Rattle.limits.specs.Rules.{code_limit, Clear, Met, tokens_of}
 use Rattle.limits.specs.Refusals.{among}
 use Rattle.limits.specs.Symbols.{first_cell, cells_before}

@@ -1,13 +1,11 @@
 -- Names, lists and words: what the proofs share.
 use Rattle.std.proofs.Common.{◌≡◌, ℕ, zero, suc, ◌+◌, ◌*◌, ◌≤◌, Bool, true, false, cond, eqb, List, [], ◌∷◌, ◌++◌, length, ℤ, pos, negsuc, Some, None, Decides, Option, refl, ap, subst, inl, inr, arith}
-use lib.Signed.{quot_z}
 use Rattle.std.proofs.lemmas.Bool.{and_parts, and_from, cond_both, eqb-true, eq-eqb}
 use Rattle.std.proofs.lemmas.Bool.Decides.{nat_tests, same_from_decides}
 use Rattle.std.proofs.lemmas.Int.{ints}
 use Rattle.std.specs.List.{AllByRecursion as All}
 use Rattle.trees.specs.Trees.{Name, Expr, variable, literal, binary}
 use Rattle.trees.specs.declared.operator.Operator.{Operator}
-use Rattle.trees.specs.declared.operator.Operator.TheVariants.{Plus as plus, Minus as minus, Times as times, Over as over}
 use Rattle.arithmetic.specs.Words.{Words, Word, Lawful, is_zero, difference, less}
 use Rattle.runs.specs.Names.{same, Store, put}
 use Rattle.runs.specs.Source.{decimal, apply, value, nth, picked, pick_cost}
@@ -111,10 +109,7 @@ module _ (w : Words) (law : Lawful w) where
       law.same (pos 1) (omega (arith, ints), omega (arith, ints))
 
   apply_fixed : (o : Operator) (a b : ℤ) → Fixed a → Fixed (apply w o a b)
-  apply_fixed plus a b h = fit_fixed _
-  apply_fixed minus a b h = fit_fixed _
-  apply_fixed times a b h = fit_fixed _
-  apply_fixed over a b h = cond_both (is_zero b) a (w.fit (quot_z a b)) Fixed (λ e. h) (λ e. fit_fixed (quot_z a b))
+  apply_fixed o a b h = grind arith
 
   pub value_fixed : (v : Store) → ((x : Name) → Fixed (v x)) → (e : Expr) → Fixed (value w v e)
   value_fixed v h (variable x) = h x
