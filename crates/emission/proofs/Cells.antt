@@ -1,11 +1,11 @@
 -- Cells are known from the first use on.
-use Rattle.std.proofs.Common.{◌≡◌, ℕ, zero, suc, ◌+◌, ◌-◌, ◌<◌, ◌≤◌, Bool, true, false, cond, not, ◌&&◌, List, [], ◌∷◌, length, sym, refl, ap, ◌∙◌, subst, arith}
+use Rattle.std.proofs.Common.{◌≡◌, ℕ, zero, suc, ◌+◌, ◌-◌, ◌<◌, ◌≤◌, Bool, true, false, cond, List, [], ◌∷◌, length, sym, refl, ap, ◌∙◌, subst, arith}
 use mathlib.Core.Option.{Option, none, some}
 use Rattle.std.proofs.lemmas.Bool.{or_left, or_right}
 use Rattle.token.specs.Tokens.{Token}
 use Rattle.token.specs.Numbers.{word}
 use Rattle.arithmetic.specs.Words.{Words}
-use Rattle.limits.specs.Uses.{Role, Use, made, use_at, with_use, uses, Key, variable_key, number_key, same_key, is_label, key_by, key, known, count_if, cells}
+use Rattle.limits.specs.Uses.{Role, Use, made, use_at, with_use, uses, Key, variable_key, number_key, same_key, key_by, key, known, cells}
 use Rattle.limits.specs.Rules.{past, rest, seen, Used}
 use Rattle.limits.specs.Symbols.{first_cell, cells_before, cell, cells_used}
 use Rattle.emission.specs.Room.{Below}
@@ -13,6 +13,7 @@ use Rattle.emission.specs.Layouts.{layout}
 use Rattle.limits.proofs.Lists.{seen_next}
 use Rattle.limits.proofs.Search.{all_seen}
 use Rattle.limits.proofs.Keys.{same_key_complete}
+use Rattle.limits.proofs.Cells.{cells_grow}
 
 -- a symbol that is known stays known, with the same cell
 record Stays (w : Words) (k : Key) (us vs : List Use) : Type 0 where
@@ -54,13 +55,6 @@ next_cell w ts r s j l u h =
     ∙ ap (λ (b : Bool). first_cell + cond b (cells_before w (key_by w r s) (seen ts j)) (cells w (seen ts j))) h
 
 -- the cells before a first use are among all
-cells_grow : (w : Words) (u : Use) (us : List Use) → cells w us ≤ cells w (u ∷ us)
-cells_grow w u us = go (not (is_label u.role) && not (known w (key w u) us)) (cells w us)
-  where
-    go : (b : Bool) (n : ℕ) → n ≤ count_if b n
-    go true n = omega arith
-    go false n = omega arith
-
 before_within : (w : Words) (k : Key) (us : List Use) → cells_before w k us ≤ cells w us
 before_within w k [] = omega arith
 before_within w k (u ∷ us) = go (known w k us) (before_within w k us) (cells_grow w u us)

@@ -1,8 +1,8 @@
 -- Each step goes on from the draft before it.
-use Rattle.std.proofs.Common.{◌≡◌, ℕ, zero, suc, pred, ◌+◌, ◌<◌, ◌≤◌, Bool, true, false, cond, T, eqb, ◌⊎◌, List, [], ◌∷◌, ◌++◌, length, sym, refl, ap, ◌∙◌, subst, inl, inr, append_assoc, arith, eqb→eq}
+use Rattle.std.proofs.Common.{◌≡◌, ℕ, suc, pred, ◌+◌, ◌<◌, ◌≤◌, Bool, true, false, cond, T, eqb, ◌⊎◌, List, [], ◌∷◌, ◌++◌, length, sym, refl, ap, ◌∙◌, subst, inl, inr, append_assoc, arith, eqb→eq}
 use mathlib.Core.List.{reverse_aux}
 use mathlib.Core.Option.{Option, none, some, some-injective, none-ne-some}
-use lib.Dec.{eqb_refl}
+use Rattle.std.proofs.lemmas.Bool.{cond-true, cond-false, eq-eqb, ne_eqb}
 use Rattle.token.specs.Tokens.{Token}
 use Rattle.trees.specs.Trees.{Name}
 use Rattle.trees.specs.declared.operator.Operator.{Operator}
@@ -13,27 +13,19 @@ use Rattle.grammar.specs.Tests.{is, is_name, is_number, spelling}
 use Rattle.grammar.specs.Machine.{Rows, stop, on, at_name, at_number, choose, go_on}
 use Rattle.grammar.proofs.Theorems.{run_append}
 use Rattle.limits.specs.Uses.{In, at_head, in_tail}
-use Rattle.emission.specs.Draft.{Word, fixed, Mark, pending, parenthesis, Work, work, Definition, Draft, words_of, here, patch, operation, any, binds, reduce, reduced, loaded, ended, left_off}
+use Rattle.emission.specs.Draft.{Word, fixed, Mark, pending, parenthesis, Work, work, Definition, Draft, words_of, here, patch, operation, any, binds, reduce, reduced, ended, left_off}
 use Rattle.emission.specs.Actions.{Action, Nothing, DefineLabel, SetTarget, StoreTarget, KeepName, JumpToName, LoadName, FirstLabel, FurtherLabel, ReadName, SkipLine, PrintValue, EndLine, PushVariable, PushNumber, OpenGroup, CloseGroup, Operate, EndExpression, Compare, BeginThen, BeginElse, EndElse, EndProgram, perform}
-use Rattle.emission.specs.Table.{State, Next, Start, Label, LetWord, LetName, LetEnd, GoWord, ToWord, ToName, OfWord, OfNames, OfComma, ReadWord, ReadNames, ReadComma, PrintWord, PrintList, LeftSide, RightSide, ThenPart, ElsePart, Operand, AfterOperand, Group, Entry, table, returning, Return, entered, all_entered, Translator, translator, follow, above, if_returning, draft_rows, translator_rows, draft_step, outset, translated}
+use Rattle.emission.specs.Table.{State, Entry, table, returning, Return, entered, all_entered, Translator, translator, follow, above, if_returning, draft_rows, translator_rows, draft_step, outset, translated}
 use Rattle.emission.specs.Growth.{word_at, waits, waiting, Stays, as_it_was, lands, Onward, Later}
 use Rattle.emission.proofs.Sizes.{patch_length}
 
 -- Words.
 -- the word at an address, in longer words
-pub skipped : (b : Bool) → (T b → ⊥) → (x z : Option Word) → cond b x z ≡ z
-skipped true h x z = absurd (h tt)
-skipped false h x z = refl
-
 pub at_older : (w : Word) (ws : List Word) (a : ℕ) → a < length ws → word_at a (w ∷ ws) ≡ word_at a ws
-at_older w ws a h = skipped (eqb (length ws) a) (λ e. let q : length ws ≡ a = eqb→eq (length ws) a e in omega arith) (some w) (word_at a ws)
+at_older w ws a h = cond-false (eqb (length ws) a) (some w) (word_at a ws) (ne_eqb (length ws) a (λ q. omega arith))
 
 pub at_newest : (w : Word) (ws : List Word) → word_at (length ws) (w ∷ ws) ≡ some w
-at_newest w ws = go (eqb (length ws) (length ws)) (eqb_refl (length ws))
-  where
-    go : (b : Bool) → T b → cond b (some w) (word_at (length ws) ws) ≡ some w
-    go true h = refl
-    go false h = absurd h
+at_newest w ws = cond-true (eqb (length ws) (length ws)) (some w) (word_at (length ws) ws) (eq-eqb (length ws) (length ws) refl)
 
 pub at_within : (a : ℕ) (ws : List Word) (w : Word) → word_at a ws ≡ some w → a < length ws
 at_within a [] w e = absurd (none-ne-some w e)
@@ -85,15 +77,8 @@ module _ {jumps : List ℕ} where
   onward_reduced : (p : Operator → Bool) (w : Work) → Onward jumps w.words (reduced p w).words
   onward_reduced p w = onward_reduce p w.marks w.cells w.temporaries w.words
 
-  onward_loaded : (cs : List ℕ) (n : ℕ) (ws : List Word) → Onward jumps ws (loaded cs n ws)
-  onward_loaded [] n ws = onward_same ws
-  onward_loaded (c ∷ cs) zero ws = onward_word _ ws
-  onward_loaded (c ∷ cs) (suc n) ws = onward_same ws
-
   onward_ended : (ms : List Mark) (cs : List ℕ) (n : ℕ) (ws : List Word) → Onward jumps ws (left_off ms cs n ws).words
-  onward_ended [] cs n ws = onward_loaded cs n ws
-  onward_ended (parenthesis ∷ ms) cs n ws = onward_same ws
-  onward_ended (pending o ∷ ms) cs n ws = onward_same ws
+  onward_ended ms cs n ws = grind arith
 
   onward_off : (w : Work) → Onward jumps w.words (ended w).words
   onward_off w = onward_ended w.marks w.cells w.temporaries w.words
@@ -238,30 +223,7 @@ module _ (y : Layout) where
 
   -- one that ends with a jump adds a word
   jumped : (b : Action) (a : ℕ) (n : Name) (d : Draft) → T (jumping b) → here d < here (perform y b a n d)
-  jumped Nothing a n d h = absurd h
-  jumped DefineLabel a n d h = absurd h
-  jumped SetTarget a n d h = absurd h
-  jumped StoreTarget a n d h = absurd h
-  jumped KeepName a n d h = absurd h
-  jumped JumpToName a n d h = absurd h
-  jumped LoadName a n d h = absurd h
-  jumped FirstLabel a n d h = absurd h
-  jumped FurtherLabel a n d h = absurd h
-  jumped ReadName a n d h = absurd h
-  jumped SkipLine a n d h = absurd h
-  jumped PrintValue a n d h = absurd h
-  jumped EndLine a n d h = absurd h
-  jumped PushVariable a n d h = absurd h
-  jumped PushNumber a n d h = absurd h
-  jumped OpenGroup a n d h = absurd h
-  jumped CloseGroup a n d h = absurd h
-  jumped (Operate o) a n d h = absurd h
-  jumped EndExpression a n d h = absurd h
-  jumped (Compare r) a n d h = absurd h
-  jumped BeginThen a n d h = omega arith
-  jumped BeginElse a n d h = let e = patch_length (pred a) (suc (here d)) (fixed (Bru 0) ∷ words_of d) in omega arith
-  jumped EndElse a n d h = absurd h
-  jumped EndProgram a n d h = absurd h
+  jumped b a n d h = grind (arith, patch_length)
 
   -- Entries: a state gives an address only to a jump of its own, and one that waits is put on the stack only behind a jump.
   abbrev any_waits : List State → Bool
@@ -281,64 +243,15 @@ module _ (y : Layout) where
   Entries P (at_name f z) = ((n : Name) → P (f n)) × Entries P z
   Entries P (at_number f z) = ((n : Name) → P (f n)) × Entries P z
 
-  fine : {s : State} {e : Entry} → T (implies (landing e.action) (waits s)) → T (implies (any_waits e.states) (jumping e.action)) → Orderly s e
-  fine p q = record { own = p; behind = q }
-
   orderly : (s : State) → Entries (Orderly s) (table s)
-  orderly Next = (fine tt tt, (fine tt tt, tt))
-  orderly Start = (λ n. fine tt tt, (fine tt tt, (fine tt tt, (fine tt tt, (fine tt tt, (fine tt tt, tt))))))
-  orderly Label = (fine tt tt, tt)
-  orderly LetWord = (λ n. fine tt tt, tt)
-  orderly LetName = (fine tt tt, tt)
-  orderly LetEnd = tt
-  orderly GoWord = (fine tt tt, tt)
-  orderly ToWord = (λ n. fine tt tt, tt)
-  orderly ToName = (fine tt tt, tt)
-  orderly OfWord = (λ n. fine tt tt, tt)
-  orderly OfNames = (fine tt tt, tt)
-  orderly OfComma = (λ n. fine tt tt, tt)
-  orderly ReadWord = (λ n. fine tt tt, tt)
-  orderly ReadNames = (fine tt tt, tt)
-  orderly ReadComma = (λ n. fine tt tt, tt)
-  orderly PrintWord = (λ n. fine tt tt, (λ n. fine tt tt, (fine tt tt, tt)))
-  orderly PrintList = (fine tt tt, tt)
-  orderly LeftSide = (fine tt tt, (fine tt tt, (fine tt tt, tt)))
-  orderly RightSide = (fine tt tt, tt)
-  orderly ThenPart = (fine tt tt, tt)
-  orderly ElsePart = tt
-  orderly Operand = (λ n. fine tt tt, (λ n. fine tt tt, (fine tt tt, tt)))
-  orderly AfterOperand = (fine tt tt, (fine tt tt, (fine tt tt, (fine tt tt, tt))))
-  orderly Group = (fine tt tt, tt)
+  orderly s = grind arith
 
   abbrev Returns : State → Option Action → Type 0
   Returns s none = Unit {0}
   Returns s (some b) = T (implies (landing b) (waits s))
 
   orderly_return : (s : State) → Returns s (returning s)
-  orderly_return Next = tt
-  orderly_return Start = tt
-  orderly_return Label = tt
-  orderly_return LetWord = tt
-  orderly_return LetName = tt
-  orderly_return LetEnd = tt
-  orderly_return GoWord = tt
-  orderly_return ToWord = tt
-  orderly_return ToName = tt
-  orderly_return OfWord = tt
-  orderly_return OfNames = tt
-  orderly_return OfComma = tt
-  orderly_return ReadWord = tt
-  orderly_return ReadNames = tt
-  orderly_return ReadComma = tt
-  orderly_return PrintWord = tt
-  orderly_return PrintList = tt
-  orderly_return LeftSide = tt
-  orderly_return RightSide = tt
-  orderly_return ThenPart = tt
-  orderly_return ElsePart = tt
-  orderly_return Operand = tt
-  orderly_return AfterOperand = tt
-  orderly_return Group = tt
+  orderly_return s = grind arith
 
   -- Steps.
   in_below : (s : State) (a : ℕ) (k : List Return) (x : ℕ) → In x (waiting k) → In x (waiting (entered a s ∷ k))
@@ -379,9 +292,7 @@ module _ (y : Layout) where
         }
       where
         last : (x : ℕ) → x < here d → (b c : Bool) → T (implies b c) → (T c → here d < here (perform y e.action a n d)) → T b → x ≡ pred (here (perform y e.action a n d)) → ⊥
-        last x l true true t f u p = let q = f tt in omega arith
-        last x l true false t f u p = absurd t
-        last x l false c t f u p = absurd u
+        last x l b c t f u p = grind arith
 
     returned : (b : Action) → T (implies (landing b) (waits s)) → (z : Translator) → Later (translator k (perform y b a [] d)) z → Later (translator (entered a s ∷ k) d) z
     returned b o z l =

@@ -1,4 +1,6 @@
 -- The translator is the machine of the grammar with its trees put into code.
+use mathlib.Core.List.{reverse_aux-append}
+use Rattle.std.proofs.lemmas.List.{map-append}
 use Rattle.token.specs.declared.kinds.Keyword.TheVariants.{Else}
 use Rattle.token.specs.declared.kinds.Sign.TheVariants as sign_of
 use Rattle.std.proofs.Common.{◌≡◌, ℕ, suc, ◌+◌, List, [], ◌∷◌, ◌++◌, map, length, sym, refl, ap, ◌∙◌, append_assoc, arith}
@@ -7,7 +9,7 @@ use mathlib.Core.Option
 use mathlib.Core.Option.{Option, none, some}
 use lib.ListN.{length-reverse_aux}
 use Rattle.token.specs.Tokens.{Token, keyword, sign}
-use Rattle.trees.specs.Trees.{Name, Expr, variable, literal, binary, Command, branch}
+use Rattle.trees.specs.Trees.{Name, Expr, Command, branch}
 use Rattle.trees.specs.declared.operator.Operator.TheVariants.{Plus as plus, Minus as minus, Times as times, Over as over}
 use Rattle.trees.specs.declared.relation.Relation.{Relation}
 use Rattle.runs.specs.declared.instruction.Instruction.TheVariants.{Bru, Lda, Sta, Sub, Read, Convert, Newline, Stop}
@@ -19,7 +21,7 @@ use Rattle.grammar.proofs.Erase.{map_rows, run_map}
 use Rattle.emission.specs.Draft.{Word, fixed, jump_zero, Work, idle, Definition, Draft, draft, no_target, no_name, no_relation, plain, here, patch, push, opened, closed, ended}
 use Rattle.emission.specs.Table.{State, Next, Start, Label, LetWord, LetName, LetEnd, GoWord, ToWord, ToName, OfWord, OfNames, OfComma, ReadWord, ReadNames, ReadComma, PrintWord, PrintList, LeftSide, RightSide, ThenPart, ElsePart, Operand, AfterOperand, Group, Return, entered, Translator, translator, draft_rows, translator_rows, translated}
 use Rattle.emission.proofs.Drafted.{definition, definitions_of, testing, whole, drafted}
-use Rattle.emission.proofs.Works.{onto_append, map_append, with_expr, before_factor, Low, at_bottom, at_parenthesis, term_reduced, whole_reduced, whole_ended}
+use Rattle.emission.proofs.Works.{with_expr, before_factor, Low, at_bottom, at_parenthesis, term_reduced, whole_reduced, whole_ended}
 use Rattle.emission.proofs.Sizes.{drafted_size, whole_size, patch_onto}
 
 module _ (y : Layout) where
@@ -44,7 +46,7 @@ module _ (y : Layout) where
   reading_is (sole n) ws = refl
   reading_is (then ns n) ws =
       ap (λ z. fixed (Sta (y.variable_cell n)) ∷ fixed Read ∷ z) (reading_is ns ws)
-      ∙ sym (onto_append (map fixed (reads y (head same_name ns ∷ tail same_name ns))) (fixed Read ∷ fixed (Sta (y.variable_cell n)) ∷ []) ws)
+      ∙ sym (reverse_aux-append (map fixed (reads y (head same_name ns ∷ tail same_name ns))) (fixed Read ∷ fixed (Sta (y.variable_cell n)) ∷ []) ws)
       ∙ ap (λ z. reverse_aux z ws) (sym (reads_more (head same_name ns ∷ tail same_name ns) n))
 
   testing_more : (xs : List Name) (n : Name) → testing (xs ++ n ∷ []) ≡ testing xs ++ (fixed (Sub one) ∷ jump_zero n ∷ [])
@@ -55,24 +57,24 @@ module _ (y : Layout) where
   picking_is (sole n) ws = refl
   picking_is (then ns n) ws =
       ap (λ z. jump_zero n ∷ fixed (Sub one) ∷ z) (picking_is ns ws)
-      ∙ sym (onto_append (jump_zero (head same_name ns) ∷ testing (tail same_name ns)) (fixed (Sub one) ∷ jump_zero n ∷ []) ws)
+      ∙ sym (reverse_aux-append (jump_zero (head same_name ns) ∷ testing (tail same_name ns)) (fixed (Sub one) ∷ jump_zero n ∷ []) ws)
       ∙ ap (λ z. reverse_aux (jump_zero (head same_name ns) ∷ z) ws) (sym (testing_more (tail same_name ns) n))
 
   abbrev shown : Expr → List Word
   shown e = whole y e ++ (fixed Convert ∷ fixed Newline ∷ [])
 
   values_more : (es : List Expr) (e : Expr) → map fixed (values y (es ++ e ∷ [])) ≡ map fixed (values y es) ++ shown e
-  values_more [] e = simp map_append
-  values_more (x ∷ es) e = simp (map_append, append_assoc, values_more es e)
+  values_more [] e = simp map-append
+  values_more (x ∷ es) e = simp (map-append, append_assoc, values_more es e)
 
   printing_is : (es : Sums) (ws : List Word) → printing_left es ws ≡ reverse_aux (map fixed (values y (head sum_tree es ∷ tail sum_tree es))) ws
   printing_is (sole e) ws =
-      sym (onto_append (whole y (sum_tree e)) (fixed Convert ∷ fixed Newline ∷ []) ws)
-      ∙ ap (λ z. reverse_aux z ws) (sym (map_append fixed (expression y (sum_tree e)) (Convert ∷ Newline ∷ [])))
+      sym (reverse_aux-append (whole y (sum_tree e)) (fixed Convert ∷ fixed Newline ∷ []) ws)
+      ∙ ap (λ z. reverse_aux z ws) (sym (map-append fixed (expression y (sum_tree e)) (Convert ∷ Newline ∷ [])))
   printing_is (then es e) ws =
       ap (λ z. fixed Newline ∷ fixed Convert ∷ reverse_aux (whole y (sum_tree e)) z) (printing_is es ws)
-      ∙ sym (onto_append (whole y (sum_tree e)) (fixed Convert ∷ fixed Newline ∷ []) (reverse_aux (map fixed (values y (head sum_tree es ∷ tail sum_tree es))) ws))
-      ∙ sym (onto_append (map fixed (values y (head sum_tree es ∷ tail sum_tree es))) (shown (sum_tree e)) ws)
+      ∙ sym (reverse_aux-append (whole y (sum_tree e)) (fixed Convert ∷ fixed Newline ∷ []) (reverse_aux (map fixed (values y (head sum_tree es ∷ tail sum_tree es))) ws))
+      ∙ sym (reverse_aux-append (map fixed (values y (head sum_tree es ∷ tail sum_tree es))) (shown (sum_tree e)) ws)
       ∙ ap (λ z. reverse_aux z ws) (sym (values_more (head sum_tree es ∷ tail sum_tree es) (sum_tree e)))
 
   -- Words and labels before a command, and the returns.
@@ -240,9 +242,9 @@ module _ (y : Layout) where
         if_words =
             (λ i. reverse_aux (drafted y (then_length (suc (length (then_words 0 a o b d ws))) i) (command_tree c)) (fixed (Bru (if_length 0 i)) ∷
             reverse_aux (drafted y (then_begins i) (command_tree d)) (fixed (Bru (then_length 0 i)) ∷ fixed (branching o (branch_at i)) ∷ fixed comparing ∷ right_words a b ws)))
-            ∙ sym (onto_append (whole y (sum_tree a)) (fixed (Sta temp) ∷ (whole y (sum_tree b) ++ from_test)) ws
-            ∙ onto_append (whole y (sum_tree b)) from_test (left_words a ws)
-            ∙ onto_append (drafted y A (command_tree d)) (fixed (Bru (past (length ws) (sum_tree a) (sum_tree b) (command_tree d) (command_tree c))) ∷ drafted y B (command_tree c))
+            ∙ sym (reverse_aux-append (whole y (sum_tree a)) (fixed (Sta temp) ∷ (whole y (sum_tree b) ++ from_test)) ws
+            ∙ reverse_aux-append (whole y (sum_tree b)) from_test (left_words a ws)
+            ∙ reverse_aux-append (drafted y A (command_tree d)) (fixed (Bru (past (length ws) (sum_tree a) (sum_tree b) (command_tree d) (command_tree c))) ∷ drafted y B (command_tree c))
             (fixed (Bru B) ∷ fixed (branching o A) ∷ fixed comparing ∷ right_words a b ws))
           where
             A : ℕ
@@ -260,13 +262,13 @@ module _ (y : Layout) where
             ≡ reverse_aux (definitions_of (length ws) (branch o (sum_tree a) (sum_tree b) (command_tree d) (command_tree c))) ds
         if_labels ds =
             (λ i. reverse_aux (definitions_of (then_length (suc (length (then_words 0 a o b d ws))) i) (command_tree c)) (reverse_aux (definitions_of (then_begins i) (command_tree d)) ds))
-            ∙ sym (onto_append (definitions_of (then_at (length ws) (sum_tree a) (sum_tree b)) (command_tree d))
+            ∙ sym (reverse_aux-append (definitions_of (then_at (length ws) (sum_tree a) (sum_tree b)) (command_tree d))
             (definitions_of (else_at (length ws) (sum_tree a) (sum_tree b) (command_tree d)) (command_tree c)) ds)
 
   patch_under : (v : Word) (vs : List Word) (w : Word) (ws : List Word) (t : ℕ) →
       patch (length ws) t (v ∷ reverse_aux vs (w ∷ ws)) ≡ v ∷ reverse_aux vs (fixed (Bru t) ∷ ws)
   patch_under v vs w ws t =
-      ap (patch (length ws) t) (sym (onto_append vs (v ∷ []) (w ∷ ws))) ∙ patch_onto (vs ++ v ∷ []) w ws t ∙ onto_append vs (v ∷ []) (fixed (Bru t) ∷ ws)
+      ap (patch (length ws) t) (sym (reverse_aux-append vs (v ∷ []) (w ∷ ws))) ∙ patch_onto (vs ++ v ∷ []) w ws t ∙ reverse_aux-append vs (v ∷ []) (fixed (Bru t) ∷ ws)
 
   finish_image : (c : Statement) (k : InCommands) → map_rows image (finish c k) ≡ draft_rows y (returns_in k) (finished (command_tree c) k)
   finish_image c first_command = refl
@@ -304,9 +306,7 @@ module _ (y : Layout) where
   low_work (of_group b k) = at_parenthesis
 
   group_closed : (e : Expr) (w : Work) → closed (ended (with_expr y e (opened w))) ≡ with_expr y e w
-  group_closed (variable x) w = refl
-  group_closed (literal ds) w = refl
-  group_closed (binary o l r) w = refl
+  group_closed e w = grind arith
 
   -- after the whole expression e
   abbrev left_rows : InCommand → Work → Rows Translator
@@ -321,7 +321,7 @@ module _ (y : Layout) where
   leave_image : (e : Sum) (k : InCommand) → map_rows image (leave e k) ≡ left_rows k (ended (with_expr y (sum_tree e) (work_of k)))
   leave_image e (of_assign n k) =
       finish_with (set n e) k (fixed (Sta (y.variable_cell n)) ∷ reverse_aux (whole y (sum_tree e)) (words_in k)) refl
-      (sym (onto_append (whole y (sum_tree e)) (fixed (Sta (y.variable_cell n)) ∷ []) (words_in k)))
+      (sym (reverse_aux-append (whole y (sum_tree e)) (fixed (Sta (y.variable_cell n)) ∷ []) (words_in k)))
       ∙ ap (left_rows (of_assign n k)) (sym (whole_ended y (sum_tree e) (words_in k)))
   leave_image e (of_left k) = ap (left_rows (of_left k)) (sym (whole_ended y (sum_tree e) (words_in k)))
   leave_image e (of_right a o k) = ap (left_rows (of_right a o k)) (sym (whole_ended y (sum_tree e) (left_words a (words_in k))))

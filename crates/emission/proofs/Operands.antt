@@ -77,9 +77,7 @@ module _ (b : ℕ) where
   ok_reduced p w h = ok_reduce p w.marks w.cells w.temporaries w.words h
 
   ok_off : (ms : List Mark) (cs : List ℕ) (n : ℕ) (ws : List Word) → AllOk cs n → AllOk (left_off ms cs n ws).cells (left_off ms cs n ws).temporaries
-  ok_off [] cs n ws h = λ c i. absurd (in_none c i)
-  ok_off (parenthesis ∷ ms) cs n ws h = h
-  ok_off (pending o ∷ ms) cs n ws h = h
+  ok_off ms cs n ws h = grind arith
 
   ok_ended : (w : Work) → AllOk w.cells w.temporaries → AllOk (ended w).cells (ended w).temporaries
   ok_ended w h = ok_off w.marks w.cells w.temporaries w.words h

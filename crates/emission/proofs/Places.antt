@@ -4,19 +4,17 @@ use mathlib.Core.List.{reverse_aux-eq}
 use mathlib.Core.Option
 use mathlib.Core.Option.{Option, none, some}
 use lib.Dec.{eqb-zero-suc, eqb-suc-zero, eqb-suc-suc}
-use Rattle.std.proofs.lemmas.Bool.{eqb-false}
+use Rattle.std.proofs.lemmas.Bool.{cond-false, eqb-false, ne_eqb}
 use lib.ListN.{get_elem?, length-reverse}
 use Rattle.runs.specs.declared.instruction.Instruction.TheVariants.{Bru}
 use Rattle.emission.specs.Draft.{Word, fixed, Draft, words_of, patch, label_address, resolved, settled}
 use Rattle.emission.specs.Growth.{word_at}
 use Rattle.emission.proofs.Sizes.{patch_length}
-use Rattle.emission.proofs.Grows.{skipped}
 
 pub beyond : (ws : List Word) (a : ℕ) → length ws ≤ a → word_at a ws ≡ none
 beyond [] a h = refl
 beyond (w ∷ ws) a h =
-    skipped (eqb (length ws) a) (λ e. let q : length ws ≡ a = eqb→eq (length ws) a e in omega arith) (some w) (word_at a ws)
-    ∙ beyond ws a (omega arith)
+    cond-false (eqb (length ws) a) (some w) (word_at a ws) (ne_eqb (length ws) a (λ q. omega arith)) ∙ beyond ws a (omega arith)
 
 pub patched : (j t : ℕ) (ws : List Word) → j < length ws → word_at j (patch j t ws) ≡ some (fixed (Bru t))
 unfolding patch
@@ -38,8 +36,8 @@ others j t (w ∷ ws) a h = go (eqb (length ws) j) refl (others j t ws a h)
     go : (b : Bool) → eqb (length ws) j ≡ b → word_at a (patch j t ws) ≡ word_at a ws → word_at a (cond b (fixed (Bru t) ∷ ws) (w ∷ patch j t ws)) ≡ word_at a (w ∷ ws)
     go true e ih =
         let q : length ws ≡ j = eqb→eq (length ws) j (rw e tt) in
-        skipped (eqb (length ws) a) (λ f. let r : length ws ≡ a = eqb→eq (length ws) a f in h (sym r ∙ q)) (some (fixed (Bru t))) (word_at a ws)
-        ∙ sym (skipped (eqb (length ws) a) (λ f. let r : length ws ≡ a = eqb→eq (length ws) a f in h (sym r ∙ q)) (some w) (word_at a ws))
+        let n : eqb (length ws) a ≡ false = ne_eqb (length ws) a (λ r. h (sym r ∙ q)) in
+        rw n
     go false e ih = rw (patch_length j t ws, ih)
 
 -- in their order

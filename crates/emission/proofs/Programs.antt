@@ -1,9 +1,10 @@
 -- The draft of a whole program.
-use Rattle.std.proofs.Common.{◌≡◌, ℕ, ◌+◌, List, [], ◌∷◌, ◌++◌, map, length, sym, refl, ap, ◌∙◌, subst, append_assoc, append-nil, arith}
-use mathlib.Core.List.{reverse_aux}
+use Rattle.std.proofs.Common.{◌≡◌, ℕ, ◌+◌, List, [], ◌∷◌, ◌++◌, map, reverse, length, sym, refl, ap, ◌∙◌, subst, append_assoc, append-nil, arith}
+use mathlib.Core.List.{reverse_aux, reverse_aux-eq, reverse_aux-append}
 use mathlib.Core.Option
 use mathlib.Core.Option.{Option, none, some, some-injective, none-ne-some}
 use lib.ListN.{length-reverse_aux}
+use Rattle.std.proofs.lemmas.List.{map-append, reverse-reverse}
 use Rattle.token.specs.Tokens.{Token}
 use Rattle.trees.specs.Trees.{Name, Command, labelled, empty, assign, go_to, go_to_of, read, print, branch, Program}
 use Rattle.runs.specs.declared.instruction.Instruction.TheVariants.{Stop}
@@ -17,14 +18,9 @@ use Rattle.emission.specs.Table.{Translator, translator, translated}
 use Rattle.emission.specs.Control.{control_in}
 use Rattle.emission.specs.Laws.{Whole}
 use Rattle.emission.proofs.Drafted.{definitions_of, drafted}
-use Rattle.emission.proofs.Works.{onto_append, map_append}
 use Rattle.emission.proofs.Sizes.{drafted_is, drafted_size}
 use Rattle.emission.proofs.Controls.{control_reach}
 use Rattle.emission.proofs.Image.{words_all, labels_all, image, translated_is}
-
-turned : {A : Type 0} (xs es zs : List A) → reverse_aux (reverse_aux xs es) zs ≡ reverse_aux es (xs ++ zs)
-turned [] es zs = refl
-turned (x ∷ xs) es zs = turned xs (x ∷ es) zs
 
 -- the commands of a program in their order
 abbrev listed : Statements → List Command
@@ -44,7 +40,7 @@ address_onto l (go_to_of x n ns) a ds e = refl
 address_onto l (read xs) a ds e = refl
 address_onto l (print es) a ds e = refl
 address_onto l (branch r f g c d) a ds e =
-    ap (λ z. address_in z l e) (onto_append (definitions_of (then_at a f g) c) (definitions_of (else_at a f g c) d) ds)
+    ap (λ z. address_in z l e) (reverse_aux-append (definitions_of (then_at a f g) c) (definitions_of (else_at a f g c) d) ds)
     ∙ address_onto l d (else_at a f g c) (reverse_aux (definitions_of (then_at a f g) c) ds) e
     ∙ address_onto l c (then_at a f g) ds (locate l (else_at a f g c) d e)
 
@@ -95,7 +91,7 @@ module _ (y : Layout) where
   all_words (then cs c) =
       (λ i. reverse_aux (drafted y (all_size cs i) (command_tree c)) (all_words cs i))
       ∙ ap (λ n. reverse_aux (drafted y n (command_tree c)) (reverse_aux (drafted_all 0 (listed cs)) [])) h
-      ∙ sym (onto_append (drafted_all 0 (listed cs)) (drafted y (0 + sizes (listed cs)) (command_tree c)) [])
+      ∙ sym (reverse_aux-append (drafted_all 0 (listed cs)) (drafted y (0 + sizes (listed cs)) (command_tree c)) [])
       ∙ ap (λ z. reverse_aux z []) (sym (drafted_more (listed cs) 0 (command_tree c)))
     where
       h : sizes (listed cs) ≡ 0 + sizes (listed cs)
@@ -105,7 +101,7 @@ module _ (y : Layout) where
   all_codes to [] a = refl
   all_codes to (c ∷ cs) a =
       ap (map (resolved to)) (append_assoc (drafted y a c) (drafted_all (a + size c) cs) (fixed Stop ∷ []))
-      ∙ map_append (resolved to) (drafted y a c) (drafted_all (a + size c) cs ++ fixed Stop ∷ [])
+      ∙ map-append (resolved to) (drafted y a c) (drafted_all (a + size c) cs ++ fixed Stop ∷ [])
       ∙ (λ i. drafted_is y to c a i ++ all_codes to cs (a + size c) i)
 
   all_labels : (l : Name) (cs : Statements) (e : ℕ) → address_in (labels_all y cs) l e ≡ locate_from l 0 (listed cs) e
@@ -132,7 +128,7 @@ module _ (y : Layout) where
   all_settled : (cs : Statements) → settled (draft_all cs) ≡ instructions y (program_tree cs)
   all_settled cs =
       ap (λ (z : List Word). map (resolved (label_address (draft_all cs))) (reverse_aux z (fixed Stop ∷ []))) (all_words cs)
-      ∙ ap (map (resolved (label_address (draft_all cs)))) (turned (drafted_all 0 (listed cs)) [] (fixed Stop ∷ []))
+      ∙ ap (map (resolved (label_address (draft_all cs)))) (reverse_aux-eq (reverse (drafted_all 0 (listed cs))) (fixed Stop ∷ []) ∙ ap (λ z. z ++ fixed Stop ∷ []) (reverse-reverse (drafted_all 0 (listed cs))))
       ∙ all_codes (label_address (draft_all cs)) (listed cs) 0
       ∙ (λ i. codes y (λ l. all_addresses cs l i) 0 (listed cs))
 

@@ -1,11 +1,11 @@
 -- The stacks of the translator are no deeper than operators, parentheses and IFs say.
 use Rattle.token.specs.declared.kinds.Keyword.TheVariants.{Let, Go, To, Of, Read, Print, If, Then}
 use Rattle.token.specs.declared.kinds.Sign.TheVariants.{Becomes, Open, Comma}
-use Rattle.std.proofs.Common.{◌≡◌, ℕ, zero, suc, ◌+◌, ◌<◌, ◌≤◌, Bool, true, false, cond, List, [], ◌∷◌, reverse, length, take, refl, ap, ◌∙◌, inl, inr, zero-le, arith}
+use Rattle.std.proofs.Common.{◌≡◌, ℕ, zero, suc, ◌+◌, ◌<◌, ◌≤◌, Bool, true, cond, List, [], ◌∷◌, reverse, length, take, refl, ap, ◌∙◌, inl, inr, zero-le, arith}
 use mathlib.Core.Option.{some}
 use Rattle.std.proofs.lemmas.Bool.{cases_lt}
 use Rattle.token.specs.Tokens.{Token, name, keyword, sign}
-use Rattle.trees.specs.Trees.{Expr, variable, literal, binary}
+use Rattle.trees.specs.Trees.{Expr}
 use Rattle.trees.specs.declared.operator.Operator.{Operator}
 use Rattle.arithmetic.specs.Words.{Words}
 use Rattle.runs.specs.Source.{operators as count}
@@ -68,19 +68,13 @@ module _ (y : Layout) where
   fits_idle ws b = record { cells = zero-le; marks = zero-le; temporaries = zero-le }
 
   with_cells : (e : Expr) (w : Work) → length (with_expr y e w).cells ≡ suc (length w.cells)
-  with_cells (variable x) w = refl
-  with_cells (literal ds) w = refl
-  with_cells (binary o l r) w = refl
+  with_cells e w = grind arith
 
   with_marks : (e : Expr) (w : Work) → length (with_expr y e w).marks ≡ length w.marks
-  with_marks (variable x) w = refl
-  with_marks (literal ds) w = refl
-  with_marks (binary o l r) w = refl
+  with_marks e w = grind arith
 
   with_temporaries : (e : Expr) (w : Work) → (with_expr y e w).temporaries ≡ w.temporaries + count e
-  with_temporaries (variable x) w = omega arith
-  with_temporaries (literal ds) w = omega arith
-  with_temporaries (binary o l r) w = refl
+  with_temporaries e w = grind arith
 
   fits_push : (o : Operator) (e : Expr) (w : Work) (b c : List Token) → Fits w b → operators c ≡ suc (operators b + count e) → depth c ≡ depth b → Fits (push o (with_expr y e w)) c
   fits_push o e w b c f p q =
@@ -200,9 +194,7 @@ operators_step : (t : Token) (b : List Token) → operators b ≤ operator_limit
 operators_step t b h g = go (is_operator t) (in_expression t) g
   where
     go : (x z : Bool) → (x ≡ true → operators b < operator_limit) → cond x (suc (operators b)) (cond z (operators b) 0) ≤ operator_limit
-    go true z f = f refl
-    go false true f = h
-    go false false f = zero-le
+    go x z f = grind arith
 
 few_operators : (w : Words) (ts : List Token) (k : ℕ) → ((j n : ℕ) → j < k → Rule w ts j n → ⊥) → operators (past ts k) ≤ operator_limit
 few_operators w ts zero h = zero-le

@@ -1,8 +1,9 @@
 -- The words of a tree settle to its code, and are as many; a jump before them can be patched.
-use Rattle.std.proofs.Common.{◌≡◌, ℕ, suc, Bool, true, false, cond, T, eqb, List, [], ◌∷◌, ◌++◌, map, reverse, length, sym, refl, ap, ◌∙◌, arith, eqb→eq, length-append}
+use Rattle.std.proofs.Common.{◌≡◌, ℕ, suc, Bool, true, false, cond, eqb, List, [], ◌∷◌, ◌++◌, map, reverse, length, sym, refl, ap, ◌∙◌, arith, length-append}
 use mathlib.Core.List.{reverse_aux, reverse_aux-eq}
-use lib.Dec.{eqb_refl}
 use lib.ListN.{length-map}
+use Rattle.std.proofs.lemmas.List.{map-append}
+use Rattle.std.proofs.lemmas.Bool.{cond-true, cond-false, eq-eqb, ne_eqb}
 use Rattle.trees.specs.Trees.{Name, Expr, Command, labelled, empty, assign, go_to, go_to_of, read, print, branch}
 use Rattle.runs.specs.declared.instruction.Instruction.{Instruction}
 use Rattle.runs.specs.declared.instruction.Instruction.TheVariants.{Bru}
@@ -11,7 +12,6 @@ use Rattle.runs.specs.Code.{Layout, expression, size, then_at, else_at, reading,
 use Rattle.runs.proofs.Sound.{expr_size, code_size}
 use Rattle.emission.specs.Draft.{Word, fixed, patch, resolved}
 use Rattle.emission.proofs.Drafted.{testing, whole, drafted}
-use Rattle.emission.proofs.Works.{map_append}
 
 unfixed : (to : Name → ℕ) (xs : List Instruction) → map (resolved to) (map fixed xs) ≡ xs
 unfixed to [] = refl
@@ -25,12 +25,12 @@ module _ (y : Layout) where
   pub drafted_is : (to : Name → ℕ) (c : Command) (a : ℕ) → map (resolved to) (drafted y a c) ≡ code y to a c
   drafted_is to (labelled l c) a = drafted_is to c a
   drafted_is to empty a = refl
-  drafted_is to (assign x e) a = simp (map_append, unfixed)
+  drafted_is to (assign x e) a = simp (map-append, unfixed)
   drafted_is to (go_to l) a = refl
   drafted_is to (go_to_of x l ls) a = rw (testing_is to ls)
   drafted_is to (read xs) a = unfixed to (reading y xs)
   drafted_is to (print es) a = unfixed to (printing y es)
-  drafted_is to (branch r e f c d) a = simp (map_append, unfixed, drafted_is to c (then_at a e f), drafted_is to d (else_at a e f c))
+  drafted_is to (branch r e f c d) a = simp (map-append, unfixed, drafted_is to c (then_at a e f), drafted_is to d (else_at a e f c))
 
   pub drafted_size : (c : Command) (a : ℕ) → length (drafted y a c) ≡ size c
   drafted_size c a =
@@ -40,19 +40,11 @@ module _ (y : Layout) where
   whole_size e = length-map (expression y e) fixed ∙ expr_size y (λ l. 0) e
 
 -- a patch before words that came later
-here : (b : Bool) → T b → (x y : List Word) → cond b x y ≡ x
-here true h x y = refl
-here false h x y = absurd h
-
-further : (b : Bool) → (T b → ⊥) → (x y : List Word) → cond b x y ≡ y
-further true h x y = absurd (h tt)
-further false h x y = refl
-
 patch_at : (vs : List Word) (w : Word) (ws : List Word) (t : ℕ) → patch (length ws) t (vs ++ w ∷ ws) ≡ vs ++ fixed (Bru t) ∷ ws
 unfolding patch
-patch_at [] w ws t = here (eqb (length ws) (length ws)) (eqb_refl (length ws)) _ _
+patch_at [] w ws t = cond-true (eqb (length ws) (length ws)) _ _ (eq-eqb (length ws) (length ws) refl)
 patch_at (v ∷ vs) w ws t =
-    further (eqb (length (vs ++ w ∷ ws)) (length ws)) (λ h. longer (eqb→eq (length (vs ++ w ∷ ws)) (length ws) h)) _ _
+    cond-false (eqb (length (vs ++ w ∷ ws)) (length ws)) _ _ (ne_eqb (length (vs ++ w ∷ ws)) (length ws) longer)
     ∙ ap (λ x. v ∷ x) (patch_at vs w ws t)
   where
     longer : length (vs ++ w ∷ ws) ≡ length ws → ⊥

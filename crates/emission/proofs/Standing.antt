@@ -1,6 +1,7 @@
 -- Between two tokens: what stands below the current state, and what it takes.
-use Rattle.std.proofs.Common.{◌≡◌, ℕ, suc, Bool, true, cond, eqb, List, [], ◌∷◌, ◌++◌, reverse, length, sym, refl, ap, ◌∙◌}
+use Rattle.std.proofs.Common.{◌≡◌, ℕ, suc, cond, eqb, List, [], ◌∷◌, ◌++◌, reverse, length, sym, refl, ap, ◌∙◌, arith}
 use mathlib.Core.Option.{Option, none, some}
+use Rattle.std.proofs.lemmas.Bool.{cond-true}
 use Rattle.token.specs.Tokens.{Token, name, number, other}
 use Rattle.trees.specs.Trees.{Name}
 use Rattle.runs.specs.Code.{Layout}
@@ -9,7 +10,7 @@ use Rattle.grammar.proofs.Theorems.{run_append}
 use Rattle.limits.specs.Uses.{parts}
 use Rattle.emission.specs.Draft.{Draft}
 use Rattle.emission.specs.Actions.{Action}
-use Rattle.emission.specs.Table.{State, Next, Start, Label, LetWord, LetName, LetEnd, GoWord, ToWord, ToName, OfWord, OfNames, OfComma, ReadWord, ReadNames, ReadComma, PrintWord, PrintList, LeftSide, RightSide, ThenPart, ElsePart, Operand, AfterOperand, Group, table, returning, Return, Translator, translator, translator_rows, draft_step, outset, translated, decided}
+use Rattle.emission.specs.Table.{State, Start, table, returning, Return, Translator, translator, translator_rows, draft_step, outset, translated, decided}
 use Rattle.emission.specs.Classes.{state_number}
 use Rattle.emission.specs.Returns.{comes_back, AllBelow}
 use Rattle.emission.proofs.Stepping.{refused, left}
@@ -21,34 +22,7 @@ use Rattle.emission.proofs.Rooms.{stack_c}
 -- no row of a state to return to is for a name or a number, and none at all for another byte
 no_row : (s : State) (n : Name) (b : ℕ) →
     (cond (comes_back s) (choose (table s) (name n)) none ≡ none) × (cond (comes_back s) (choose (table s) (number n)) none ≡ none) × (choose (table s) (other b) ≡ none)
-no_row Next n b = (refl, refl, refl)
-no_row Start n b = (refl, refl, refl)
-no_row Label n b = (refl, refl, refl)
-no_row LetWord n b = (refl, refl, refl)
-no_row LetName n b = (refl, refl, refl)
-no_row LetEnd n b = (refl, refl, refl)
-no_row GoWord n b = (refl, refl, refl)
-no_row ToWord n b = (refl, refl, refl)
-no_row ToName n b = (refl, refl, refl)
-no_row OfWord n b = (refl, refl, refl)
-no_row OfNames n b = (refl, refl, refl)
-no_row OfComma n b = (refl, refl, refl)
-no_row ReadWord n b = (refl, refl, refl)
-no_row ReadNames n b = (refl, refl, refl)
-no_row ReadComma n b = (refl, refl, refl)
-no_row PrintWord n b = (refl, refl, refl)
-no_row PrintList n b = (refl, refl, refl)
-no_row LeftSide n b = (refl, refl, refl)
-no_row RightSide n b = (refl, refl, refl)
-no_row ThenPart n b = (refl, refl, refl)
-no_row ElsePart n b = (refl, refl, refl)
-no_row Operand n b = (refl, refl, refl)
-no_row AfterOperand n b = (refl, refl, refl)
-no_row Group n b = (refl, refl, refl)
-
--- a choice by a test that came out true
-when_true : {A : Type 0} {b : Bool} {x z : A} → b ≡ true → cond b x z ≡ z → x ≡ z
-when_true {A} {b} {x} {z} e f = ap (λ (c : Bool). cond c x z) (sym e) ∙ f
+no_row s n b = grind arith
 
 module _ (y : Layout) where
   -- A token for which neither the current state nor those below have a row.
@@ -62,11 +36,11 @@ module _ (y : Layout) where
 
   pub no_name : (k : List Return) (d : Draft) (n : Name) → AllBelow k → draft_step y (translator k d) (name n) ≡ none
   no_name [] d n a = refl
-  no_name (s ∷ k) d n a = passed (name n) s k d (when_true a.0 (no_row s.state n 0).0) (λ e. no_name k e n a.1)
+  no_name (s ∷ k) d n a = passed (name n) s k d (sym (cond-true _ _ _ a.0) ∙ (no_row s.state n 0).0) (λ e. no_name k e n a.1)
 
   pub no_number : (k : List Return) (d : Draft) (n : Name) → AllBelow k → draft_step y (translator k d) (number n) ≡ none
   no_number [] d n a = refl
-  no_number (s ∷ k) d n a = passed (number n) s k d (when_true a.0 (no_row s.state n 0).1) (λ e. no_number k e n a.1)
+  no_number (s ∷ k) d n a = passed (number n) s k d (sym (cond-true _ _ _ a.0) ∙ (no_row s.state n 0).1) (λ e. no_number k e n a.1)
 
   never_other : (k : List Return) (d : Draft) (b : ℕ) → draft_step y (translator k d) (other b) ≡ none
   never_other [] d b = refl

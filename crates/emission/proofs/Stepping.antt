@@ -1,5 +1,5 @@
 -- A step, by the entry of the state on top.
-use Rattle.std.proofs.Common.{◌≡◌, ℕ, Bool, true, false, cond, List, [], ◌∷◌, refl, ap, ◌∙◌}
+use Rattle.std.proofs.Common.{◌≡◌, ℕ, Bool, true, false, cond, List, [], ◌∷◌, refl, ap, ◌∙◌, arith}
 use mathlib.Core.Option.{Option, none, some}
 use Rattle.token.specs.Tokens.{Token, name, number, keyword, sign, other}
 use Rattle.trees.specs.Trees.{Name}
@@ -26,19 +26,11 @@ module _ (y : Layout) where
   or_word w (name n) e o a k d z = unlike w
     where
       unlike : (w : Token) → cond (is w (name n)) (some (follow y e a [] k d)) (or_else o a n k d z) ≡ or_else (cond (is w (name n)) (some e) o) a n k d z
-      unlike (name m) = refl
-      unlike (number m) = refl
-      unlike (keyword j) = refl
-      unlike (sign s) = refl
-      unlike (other b) = refl
+      unlike w = grind arith
   or_word w (number n) e o a k d z = unlike w
     where
       unlike : (w : Token) → cond (is w (number n)) (some (follow y e a [] k d)) (or_else o a n k d z) ≡ or_else (cond (is w (number n)) (some e) o) a n k d z
-      unlike (name m) = refl
-      unlike (number m) = refl
-      unlike (keyword j) = refl
-      unlike (sign s) = refl
-      unlike (other b) = refl
+      unlike w = grind arith
   or_word w (keyword j) e o a k d z = or_cond (is w (keyword j)) e o a [] k d z
   or_word w (sign s) e o a k d z = or_cond (is w (sign s)) e o a [] k d z
   or_word w (other b) e o a k d z = or_cond (is w (other b)) e o a [] k d z
@@ -63,9 +55,7 @@ module _ (y : Layout) where
     where
       go : (o : Option Entry) (b : Option Action) →
           or_else o s.address (spelling t) k d (choose (if_returning b (λ c. draft_rows y k (perform y c s.address [] d))) t) ≡ done_by (decided o b) s k d t
-      go none none = refl
-      go none (some b) = refl
-      go (some e) b = refl
+      go o b = grind arith
 
   pub refused : (s : Return) (k : List Return) (d : Draft) (t : Token) → move s.state t ≡ refuse → draft_step y (translator (s ∷ k) d) t ≡ none
   refused s k d t e = by_move s k d t ∙ ap (λ m. done_by m s k d t) e

@@ -1,6 +1,6 @@
 -- The table by letters says what the rows say.
-use Rattle.emission.specs.declared.state.State.TheVariants as state
 use Rattle.std.proofs.Common.{◌≡◌, ℕ, zero, suc, ◌-◌, ◌<◌, ◌≤◌, List, [], ◌∷◌, ◌++◌, map, length, get_or, min, inl, inr, sym, refl, ap, ◌∙◌, arith}
+use lib.ListN.{length-map}
 use Rattle.std.proofs.lemmas.List.{get_or-map, get_or_past}
 use Rattle.std.proofs.lemmas.Bool.{cases_lt}
 use Rattle.token.specs.Tokens.{Token, name, number, keyword, sign, other}
@@ -22,57 +22,10 @@ row s = get_or letters (state_number s) []
 
 rows_right : (s : State) → map by_letter (row s) ≡ map (move s) classes
 unfolding letters row
-rows_right state.Next = refl
-rows_right state.Start = refl
-rows_right state.Label = refl
-rows_right state.LetWord = refl
-rows_right state.LetName = refl
-rows_right state.LetEnd = refl
-rows_right state.GoWord = refl
-rows_right state.ToWord = refl
-rows_right state.ToName = refl
-rows_right state.OfWord = refl
-rows_right state.OfNames = refl
-rows_right state.OfComma = refl
-rows_right state.ReadWord = refl
-rows_right state.ReadNames = refl
-rows_right state.ReadComma = refl
-rows_right state.PrintWord = refl
-rows_right state.PrintList = refl
-rows_right state.LeftSide = refl
-rows_right state.RightSide = refl
-rows_right state.ThenPart = refl
-rows_right state.ElsePart = refl
-rows_right state.Operand = refl
-rows_right state.AfterOperand = refl
-rows_right state.Group = refl
+rows_right s = grind arith
 
 row_length : (s : State) → length (row s) ≡ 26
-unfolding letters row
-row_length state.Next = refl
-row_length state.Start = refl
-row_length state.Label = refl
-row_length state.LetWord = refl
-row_length state.LetName = refl
-row_length state.LetEnd = refl
-row_length state.GoWord = refl
-row_length state.ToWord = refl
-row_length state.ToName = refl
-row_length state.OfWord = refl
-row_length state.OfNames = refl
-row_length state.OfComma = refl
-row_length state.ReadWord = refl
-row_length state.ReadNames = refl
-row_length state.ReadComma = refl
-row_length state.PrintWord = refl
-row_length state.PrintList = refl
-row_length state.LeftSide = refl
-row_length state.RightSide = refl
-row_length state.ThenPart = refl
-row_length state.ElsePart = refl
-row_length state.Operand = refl
-row_length state.AfterOperand = refl
-row_length state.Group = refl
+row_length s = sym (length-map (row s) by_letter) ∙ ap length (rows_right s)
 
 class_at : (ts : List Token) (c : ℕ) → get_or (ts ++ (other 0 ∷ [])) c (other 0) ≡ get_or ts c (other 0)
 class_at [] zero = refl
@@ -104,83 +57,9 @@ pub entry_at : (s : State) (c : ℕ) → by_letter (get_or (get_or letters (stat
 entry_at s c = entry_right s (min c 25) (omega arith) ∙ as_25 s c
 
 -- A move depends on the token's class alone.
-any_name : (s : State) (n : List ℕ) → move s (name n) ≡ move s (name [])
-any_name state.Next n = refl
-any_name state.Start n = refl
-any_name state.Label n = refl
-any_name state.LetWord n = refl
-any_name state.LetName n = refl
-any_name state.LetEnd n = refl
-any_name state.GoWord n = refl
-any_name state.ToWord n = refl
-any_name state.ToName n = refl
-any_name state.OfWord n = refl
-any_name state.OfNames n = refl
-any_name state.OfComma n = refl
-any_name state.ReadWord n = refl
-any_name state.ReadNames n = refl
-any_name state.ReadComma n = refl
-any_name state.PrintWord n = refl
-any_name state.PrintList n = refl
-any_name state.LeftSide n = refl
-any_name state.RightSide n = refl
-any_name state.ThenPart n = refl
-any_name state.ElsePart n = refl
-any_name state.Operand n = refl
-any_name state.AfterOperand n = refl
-any_name state.Group n = refl
-
-any_number : (s : State) (n : List ℕ) → move s (number n) ≡ move s (number [])
-any_number state.Next n = refl
-any_number state.Start n = refl
-any_number state.Label n = refl
-any_number state.LetWord n = refl
-any_number state.LetName n = refl
-any_number state.LetEnd n = refl
-any_number state.GoWord n = refl
-any_number state.ToWord n = refl
-any_number state.ToName n = refl
-any_number state.OfWord n = refl
-any_number state.OfNames n = refl
-any_number state.OfComma n = refl
-any_number state.ReadWord n = refl
-any_number state.ReadNames n = refl
-any_number state.ReadComma n = refl
-any_number state.PrintWord n = refl
-any_number state.PrintList n = refl
-any_number state.LeftSide n = refl
-any_number state.RightSide n = refl
-any_number state.ThenPart n = refl
-any_number state.ElsePart n = refl
-any_number state.Operand n = refl
-any_number state.AfterOperand n = refl
-any_number state.Group n = refl
-
-any_other : (s : State) (b : ℕ) → move s (other b) ≡ move s (other 0)
-any_other state.Next b = refl
-any_other state.Start b = refl
-any_other state.Label b = refl
-any_other state.LetWord b = refl
-any_other state.LetName b = refl
-any_other state.LetEnd b = refl
-any_other state.GoWord b = refl
-any_other state.ToWord b = refl
-any_other state.ToName b = refl
-any_other state.OfWord b = refl
-any_other state.OfNames b = refl
-any_other state.OfComma b = refl
-any_other state.ReadWord b = refl
-any_other state.ReadNames b = refl
-any_other state.ReadComma b = refl
-any_other state.PrintWord b = refl
-any_other state.PrintList b = refl
-any_other state.LeftSide b = refl
-any_other state.RightSide b = refl
-any_other state.ThenPart b = refl
-any_other state.ElsePart b = refl
-any_other state.Operand b = refl
-any_other state.AfterOperand b = refl
-any_other state.Group b = refl
+any_token : (s : State) (n : List ℕ) (b : ℕ) →
+    (move s (name n) ≡ move s (name [])) × (move s (number n) ≡ move s (number [])) × (move s (other b) ≡ move s (other 0))
+any_token s n b = grind arith
 
 keyword_class : (k : Keyword) → get_or samples (class (keyword k)) (other 0) ≡ keyword k
 keyword_class keyword_of.End = refl
@@ -210,8 +89,8 @@ sign_class sign_of.Equal = refl
 sign_class sign_of.Less = refl
 
 pub by_class : (s : State) (t : Token) → class_move s (class t) ≡ move s t
-by_class s (name n) = sym (any_name s n)
-by_class s (number n) = sym (any_number s n)
+by_class s (name n) = sym ((any_token s n 0).0)
+by_class s (number n) = sym ((any_token s n 0).1)
 by_class s (keyword k) = ap (move s) (keyword_class k)
 by_class s (sign r) = ap (move s) (sign_class r)
-by_class s (other b) = sym (any_other s b)
+by_class s (other b) = sym ((any_token s [] b).2)

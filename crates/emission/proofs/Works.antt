@@ -1,6 +1,9 @@
 -- The two stacks make the code of the tree.
-use Rattle.std.proofs.Common.{◌≡◌, ℕ, suc, ◌+◌, Bool, true, false, cond, List, [], ◌∷◌, ◌++◌, map, sym, refl, ap, ◌∙◌, arith}
+use Rattle.std.proofs.Common.{◌≡◌, ℕ, suc, ◌+◌, Bool, true, false, List, [], ◌∷◌, ◌++◌, map, sym, refl, ap, ◌∙◌, arith}
 use mathlib.Core.List.{reverse_aux}
+use mathlib.Core.List.{reverse_aux-append}
+use Rattle.std.proofs.lemmas.List.{map-append}
+use Rattle.std.proofs.lemmas.Bool.{cond-true, cond-false}
 use Rattle.trees.specs.Trees.{Expr, variable, literal, binary}
 use Rattle.trees.specs.declared.operator.Operator.{Operator}
 use Rattle.runs.specs.declared.instruction.Instruction.{Instruction}
@@ -13,22 +16,8 @@ use Rattle.emission.specs.Draft.{Word, fixed, Mark, parenthesis, Work, work, idl
 use Rattle.emission.proofs.Drafted.{whole}
 
 -- Lists put behind others, newest first.
-pub onto_append : {A : Type 0} (xs ys zs : List A) → reverse_aux (xs ++ ys) zs ≡ reverse_aux ys (reverse_aux xs zs)
-onto_append [] ys zs = refl
-onto_append (x ∷ xs) ys zs = onto_append xs ys (x ∷ zs)
-
-pub map_append : {A B : Type 0} (f : A → B) (xs ys : List A) → map f (xs ++ ys) ≡ map f xs ++ map f ys
-map_append f [] ys = refl
-map_append f (x ∷ xs) ys = ap (λ z. f x ∷ z) (map_append f xs ys)
-
 onto_map : (xs ys : List Instruction) (ws : List Word) → reverse_aux (map fixed (xs ++ ys)) ws ≡ reverse_aux (map fixed ys) (reverse_aux (map fixed xs) ws)
-onto_map xs ys ws = ap (λ z. reverse_aux z ws) (map_append fixed xs ys) ∙ onto_append (map fixed xs) (map fixed ys) ws
-
-taken : (z : Bool) → z ≡ true → (v w : Work) → cond z v w ≡ v
-taken z e v w = rw e
-
-left : (z : Bool) → z ≡ false → (v w : Work) → cond z v w ≡ w
-left z e v w = rw e
+onto_map xs ys ws = ap (λ z. reverse_aux z ws) (map-append fixed xs ys) ∙ reverse_aux-append (map fixed xs) (map fixed ys) ws
 
 module _ (y : Layout) where
   -- the work after an expression that was put into code
@@ -71,7 +60,7 @@ module _ (y : Layout) where
   reduce_one p o h l r ms cs n ws =
       ap (λ w. reduced p (with_expr r (push o w))) (with_is l (work ms cs n ws))
       ∙ ap (reduced p) (with_is r (push o (after_expr l ms cs n ws)))
-      ∙ taken (p o) h _ _
+      ∙ cond-true (p o) _ _ h
       ∙ (λ i. reduce p ms (q i ∷ cs) (t i) (operated o l r n ws i))
     where
       q : first_temporary + ((n + operators l) + operators r) ≡ (first_temporary + n) + (operators l + operators r)
@@ -85,7 +74,7 @@ module _ (y : Layout) where
   keep_one p o h l r w =
       ap (λ x. reduced p (with_expr r (push o x))) (with_is l w)
       ∙ ap (reduced p) (with_is r (push o (after_expr l w.marks w.cells w.temporaries w.words)))
-      ∙ left (p o) h _ _
+      ∙ cond-false (p o) _ _ h
       ∙ sym (with_is r (push o (after_expr l w.marks w.cells w.temporaries w.words)))
       ∙ sym (ap (λ x. with_expr r (push o x)) (with_is l w))
 

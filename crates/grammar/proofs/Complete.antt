@@ -1,16 +1,15 @@
 -- The machine reads the tokens of each tree, and ends with that tree.
 use Rattle.token.specs.declared.kinds.Keyword.TheVariants.{End, Then, Else}
 use Rattle.token.specs.declared.kinds.Sign.TheVariants.{Semicolon, Plus, Minus, Times, Over, Close, Comma}
-use Rattle.std.proofs.Common.{◌≡◌, false, cond, List, [], ◌∷◌, refl, ap, ◌∙◌}
+use Rattle.std.proofs.Common.{◌≡◌, false, cond, List, [], ◌∷◌, refl, ap, ◌∙◌, arith}
 use mathlib.Core.Option.{Option, some}
 use Rattle.token.specs.Tokens.{Token, name, keyword, sign}
 use Rattle.trees.specs.Trees.{Name}
 use Rattle.trees.specs.declared.relation.Relation.{Relation}
-use Rattle.trees.specs.declared.relation.Relation.TheVariants.{Greater as greater, Equal as equal, Less as less}
 use Rattle.grammar.specs.Tests.{is}
 use Rattle.grammar.specs.Grammar.{relation_sign}
-use Rattle.grammar.specs.Concrete.{AddSign, adds, takes, MulSign, multiplies, divides, Factor, var, lit, group, Term, factor, multiply, Sum, term, add, sole, then, Names, Sums, Statement, label, nil, set, jump, pick, read_none, read_some, print_none, print_some, test, Statements, add_sign, mul_sign, factor_t, term_t, sum_t, names_t, sums_t, statement_t, statements_t, program_t}
-use Rattle.grammar.specs.Machine.{InCommands, first_command, after_commands, under_label, then_part, else_part, BeforeTerm, no_sum, sum, BeforeFactor, no_product, product, InCommand, of_assign, of_left, of_right, of_print, of_prints, of_group, Config, start, to_name, of_word, of_names, read_word, read_names, print_word, operand, after, done, choose, whole_of, fresh, next, finish, more_print, leave, rows, step, go_on, run, begun}
+use Rattle.grammar.specs.Concrete.{AddSign, MulSign, Factor, var, lit, group, Term, factor, multiply, Sum, term, add, sole, then, Names, Sums, Statement, label, nil, set, jump, pick, read_none, read_some, print_none, print_some, test, Statements, add_sign, mul_sign, factor_t, term_t, sum_t, names_t, sums_t, statement_t, statements_t, program_t}
+use Rattle.grammar.specs.Machine.{InCommands, first_command, after_commands, under_label, then_part, else_part, BeforeTerm, no_sum, sum, BeforeFactor, no_product, product, InCommand, of_assign, of_left, of_right, of_print, of_prints, of_group, Config, start, to_name, of_word, of_names, read_word, read_names, print_word, operand, after, done, choose, fresh, next, finish, more_print, leave, rows, step, go_on, run, begun}
 
 abbrev after_term : BeforeTerm → Term → InCommand → Config
 after_term s (factor f) k = after (no_product s) f k
@@ -21,20 +20,10 @@ after_expr (term t) k = after_term no_sum t k
 after_expr (add e o t) k = after_term (sum e o) t k
 
 times_next : (s : BeforeTerm) (t : Term) (o : MulSign) (k : InCommand) → step (after_term s t k) (mul_sign o) ≡ some (operand (product s t o) k)
-times_next s (factor f) multiplies k = refl
-times_next s (factor f) divides k = refl
-times_next s (multiply t p f) multiplies k = refl
-times_next s (multiply t p f) divides k = refl
+times_next s t o k = grind arith
 
 plus_next : (e : Sum) (o : AddSign) (k : InCommand) → step (after_expr e k) (add_sign o) ≡ some (operand (no_product (sum e o)) k)
-plus_next (term (factor f)) adds k = refl
-plus_next (term (factor f)) takes k = refl
-plus_next (term (multiply t p f)) adds k = refl
-plus_next (term (multiply t p f)) takes k = refl
-plus_next (add e q (factor f)) adds k = refl
-plus_next (add e q (factor f)) takes k = refl
-plus_next (add e q (multiply t p f)) adds k = refl
-plus_next (add e q (multiply t p f)) takes k = refl
+plus_next e o k = grind arith
 
 -- a token that is no operator
 record Quiet (t : Token) : Type 0 where
@@ -43,14 +32,8 @@ record Quiet (t : Token) : Type 0 where
   plus_no : is (sign Plus) t ≡ false
   minus_no : is (sign Minus) t ≡ false
 
-after_leave : (b : BeforeFactor) (f : Factor) (k : InCommand) {t : Token} → Quiet t → step (after b f k) t ≡ choose (leave (whole_of b f) k) t
-after_leave b f k q = rw (q.times_no, q.over_no, q.plus_no, q.minus_no)
-
 leave_next : (e : Sum) (k : InCommand) {t : Token} → Quiet t → step (after_expr e k) t ≡ choose (leave e k) t
-leave_next (term (factor f)) k q = after_leave (no_product no_sum) f k q
-leave_next (term (multiply t p f)) k q = after_leave (product no_sum t p) f k q
-leave_next (add e o (factor f)) k q = after_leave (no_product (sum e o)) f k q
-leave_next (add e o (multiply t p f)) k q = after_leave (product (sum e o) t p) f k q
+leave_next e k q = grind arith
 
 quiet_close : Quiet (sign Close)
 quiet_close = record { times_no = refl; over_no = refl; plus_no = refl; minus_no = refl }
@@ -84,14 +67,10 @@ data Ends : Token → Type 0 where
   at_else : Ends (keyword Else)
 
 ends_quiet : {t : Token} → Ends t → Quiet t
-ends_quiet at_semi = record { times_no = refl; over_no = refl; plus_no = refl; minus_no = refl }
-ends_quiet at_end = record { times_no = refl; over_no = refl; plus_no = refl; minus_no = refl }
-ends_quiet at_else = record { times_no = refl; over_no = refl; plus_no = refl; minus_no = refl }
+ends_quiet h = grind arith
 
 ends_no_comma : {t : Token} → Ends t → is (sign Comma) t ≡ false
-ends_no_comma at_semi = refl
-ends_no_comma at_end = refl
-ends_no_comma at_else = refl
+ends_no_comma h = grind arith
 
 of_run : (n : Name) (ns : Names) (k : InCommands) (r : List Token) → run (of_word n k) (names_t ns r) ≡ run (of_names n ns k) r
 of_run n (sole m) k r = refl
@@ -122,14 +101,10 @@ quiet_then : Quiet (keyword Then)
 quiet_then = record { times_no = refl; over_no = refl; plus_no = refl; minus_no = refl }
 
 quiet_relation : (o : Relation) → Quiet (relation_sign o)
-quiet_relation greater = record { times_no = refl; over_no = refl; plus_no = refl; minus_no = refl }
-quiet_relation equal = record { times_no = refl; over_no = refl; plus_no = refl; minus_no = refl }
-quiet_relation less = record { times_no = refl; over_no = refl; plus_no = refl; minus_no = refl }
+quiet_relation o = grind arith
 
 relation_next : (a : Sum) (o : Relation) (k : InCommands) → choose (leave a (of_left k)) (relation_sign o) ≡ some (operand fresh (of_right a o k))
-relation_next a greater k = refl
-relation_next a equal k = refl
-relation_next a less k = refl
+relation_next a o k = grind arith
 
 exprs_run : (es : Sums) (k : InCommands) {t : Token} → Quiet t → (r : List Token) → run (print_word k) (sums_t es (t ∷ r)) ≡ go_on rows (choose (more_print es k) t) r
 exprs_run (sole e) k {t} q r = expr_starts e k (t ∷ r) ∙ expr_end e (of_print k) q r
@@ -137,24 +112,16 @@ exprs_run (then es e) k {t} q r = exprs_run es k quiet_comma (sum_t e (t ∷ r))
 
 -- no command goes on with a token of Ends
 nothing_next : (k : InCommands) {t : Token} → Ends t → step (start k) t ≡ choose (finish nil k) t
-nothing_next k at_semi = refl
-nothing_next k at_end = refl
-nothing_next k at_else = refl
+nothing_next k h = grind arith
 
 to_next : (n : Name) (k : InCommands) {t : Token} → Ends t → step (to_name n k) t ≡ choose (finish (jump n) k) t
-to_next n k at_semi = refl
-to_next n k at_end = refl
-to_next n k at_else = refl
+to_next n k h = grind arith
 
 read_next : (k : InCommands) {t : Token} → Ends t → step (read_word k) t ≡ choose (finish read_none k) t
-read_next k at_semi = refl
-read_next k at_end = refl
-read_next k at_else = refl
+read_next k h = grind arith
 
 print_next : (k : InCommands) {t : Token} → Ends t → step (print_word k) t ≡ choose (finish print_none k) t
-print_next k at_semi = refl
-print_next k at_end = refl
-print_next k at_else = refl
+print_next k h = grind arith
 
 comma_next : {t : Token} → Ends t → (a b : Option Config) → cond (is (sign Comma) t) a b ≡ b
 comma_next e a b = rw (ends_no_comma e)

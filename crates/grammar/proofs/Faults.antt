@@ -1,11 +1,12 @@
 -- `first_fault` is exact.
-use Rattle.std.proofs.Common.{◌≡◌, ℕ, zero, suc, ◌<◌, ◌≤◌, Bool, true, false, cond, T, List, [], ◌∷◌, ◌++◌, length, take, drop, sym, refl, ap, ◌∙◌, subst, inl, inr, append_assoc, append-nil, suc-le-suc, add-one, arith, length-append, take-append-drop, take-take}
+use Rattle.std.proofs.Common.{◌≡◌, ℕ, suc, ◌<◌, ◌≤◌, Bool, true, false, cond, List, [], ◌∷◌, ◌++◌, length, take, drop, sym, refl, ap, ◌∙◌, subst, inl, inr, append_assoc, append-nil, add-one, arith, length-append, take-append-drop, take-take}
 use mathlib.Core.Option.{Option, none, some}
 use lib.Seq.{take-append_seam, take-append-add}
-use Rattle.std.proofs.lemmas.Bool.{true≢false, cases_order}
+use Rattle.std.proofs.lemmas.Bool.{cases_order}
 use Rattle.token.specs.Tokens.{Token}
 use Rattle.grammar.specs.Grammar.{IsProgram, Begins, Fault, at_token, at_end}
 use Rattle.grammar.specs.Recogniser.{State, stack_step, outset, reach, accepting, unless, refused_from, first_fault}
+use Rattle.grammar.proofs.Lists.{drop_within, take_next}
 use Rattle.grammar.proofs.Theorems.{accepts_sound, accepts_complete, goes_on, reach_more, refuses}
 
 -- a front of tokens with which a program begins
@@ -56,11 +57,7 @@ module _ (pre : List Token) (k : List State) (e : reach pre ≡ some k) where
   open_here : accepting (some k) ≡ false → Fault (pre ++ []) (length pre)
   open_here h =
       subst (λ (ts : List Token). Fault ts (length pre)) (sym (append-nil pre))
-      (at_end (goes_on pre k e) (λ p. not_false (accepting (some k)) h (subst (λ (s : Option (List State)). T (accepting s)) e (accepts_complete pre p))))
-    where
-      not_false : (b : Bool) → b ≡ false → T b → ⊥
-      not_false true q t = true≢false q
-      not_false false q t = t
+      (at_end (goes_on pre k e) (λ p. rw (e, h) at (accepts_complete pre p)))
 
   accepted_here : accepting (some k) ≡ true → IsProgram (pre ++ [])
   accepted_here h = subst IsProgram (sym (append-nil pre)) (accepts_sound pre (rw (e, h) tt))
@@ -110,37 +107,18 @@ fault_some ts k f = go (first_fault ts) (first ts)
     go (some j) g = ap {B = Option ℕ} some (one_fault ts j k g f)
 
 -- Step by step.
-module _ (t : Token) (r : List Token) where
-  nil_cons : {A : Type 0} → [] ≡ t ∷ r → A
-  nil_cons q = absurd (never q)
-    where
-      never : [] ≡ t ∷ r → ⊥
-      never p = let z : ◌≡◌ {A = ℕ} 0 1 = cc in omega arith
-
-  within_list : (n : ℕ) (l : List Token) → drop n l ≡ t ∷ r → n < length l
-  within_list zero [] q = nil_cons q
-  within_list zero (x ∷ xs) q = omega arith
-  within_list (suc n) [] q = nil_cons q
-  within_list (suc n) (x ∷ xs) q = suc-le-suc (within_list n xs q)
-
-  one_further : (n : ℕ) (l : List Token) → drop n l ≡ t ∷ r → take (suc n) l ≡ take n l ++ t ∷ []
-  one_further zero [] q = nil_cons q
-  one_further zero (x ∷ xs) q = let z : x ≡ t = cc in ap (λ (y : Token). y ∷ []) z
-  one_further (suc n) [] q = nil_cons q
-  one_further (suc n) (x ∷ xs) q = ap (λ (y : List Token). x ∷ y) (one_further n xs q)
-
 module _ (ts : List Token) (k : ℕ) (s : List State) (t : Token) (r : List Token) (e : reach (take k ts) ≡ some s) (d : drop k ts ≡ t ∷ r) where
   pub refused : stack_step s t ≡ none → Fault ts k
-  refused h = at_token (within_list t r k ts d) (goes_on (take k ts) s e) (λ b. refuses (take k ts) s t e h (subst Begins (one_further t r k ts d) b))
+  refused h = at_token (drop_within k ts t r d) (goes_on (take k ts) s e) (λ b. refuses (take k ts) s t e h (subst Begins (take_next k ts t r d) b))
 
   pub taken : (next : List State) → stack_step s t ≡ some next → (reach (take (suc k) ts) ≡ some next) × (Fault ts k → ⊥)
   taken next h = (further, no_fault_here)
     where
       further : reach (take (suc k) ts) ≡ some next
-      further = ap reach (one_further t r k ts d) ∙ reach_more (take k ts) s t e ∙ h
+      further = ap reach (take_next k ts t r d) ∙ reach_more (take k ts) s t e ∙ h
 
       no_fault_here : Fault ts k → ⊥
-      no_fault_here f = before_here k f (within_list t r k ts d) further
+      no_fault_here f = before_here k f (drop_within k ts t r d) further
         where
           before_here : (j : ℕ) → Fault ts j → j < length ts → reach (take (suc j) ts) ≡ some next → ⊥
           before_here j (at_token l b n) g q = n (goes_on (take (suc j) ts) next q)

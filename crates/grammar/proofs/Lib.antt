@@ -1,4 +1,5 @@
 pub mod Words
+pub mod Lists
 pub mod Sound
 pub mod Complete
 pub mod Fill

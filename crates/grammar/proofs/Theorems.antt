@@ -1,11 +1,11 @@
 -- The theorems on the grammar, from those on the machine.
-use Rattle.std.proofs.Common.{◌≡◌, T, List, [], ◌∷◌, ◌++◌, sym, refl, ap, ◌∙◌, subst, append-nil}
+use Rattle.std.proofs.Common.{◌≡◌, T, List, [], ◌∷◌, ◌++◌, sym, refl, ap, ◌∙◌, subst, append-nil, arith}
 use mathlib.Core.Option.{Option, none, some, map, some-injective, none-ne-some}
 use Rattle.token.specs.Tokens.{Token}
 use Rattle.trees.specs.Trees.{Program}
 use Rattle.grammar.specs.Grammar.{Parses, IsProgram, Begins}
 use Rattle.grammar.specs.Concrete.{Statements, program_t, program_tree}
-use Rattle.grammar.specs.Machine.{Config, start, labelling, let_word, let_name, go_word, to_word, to_name, of_word, of_names, of_comma, read_word, read_names, read_comma, print_word, operand, after, done, Rows, choose, go_on, run, begun, built, parse}
+use Rattle.grammar.specs.Machine.{Config, done, Rows, choose, go_on, run, begun, built, parse}
 use Rattle.grammar.specs.Recogniser.{State, stack_rows, stack_step, outset, reach, accepting}
 use Rattle.grammar.proofs.Sound.{run_reads}
 use Rattle.grammar.proofs.Complete.{program_run}
@@ -15,23 +15,7 @@ use Rattle.grammar.proofs.Yields.{parsed_to, parsed_from}
 
 -- a machine that has built a tree is done with it
 built_done : (c : Config) (p : Program) → built (some c) ≡ some p → (cs : Statements) × (c ≡ done cs) × (program_tree cs ≡ p)
-built_done (start k) p h = absurd (none-ne-some p h)
-built_done (labelling n k) p h = absurd (none-ne-some p h)
-built_done (let_word k) p h = absurd (none-ne-some p h)
-built_done (let_name n k) p h = absurd (none-ne-some p h)
-built_done (go_word k) p h = absurd (none-ne-some p h)
-built_done (to_word k) p h = absurd (none-ne-some p h)
-built_done (to_name n k) p h = absurd (none-ne-some p h)
-built_done (of_word n k) p h = absurd (none-ne-some p h)
-built_done (of_names n ns k) p h = absurd (none-ne-some p h)
-built_done (of_comma n ns k) p h = absurd (none-ne-some p h)
-built_done (read_word k) p h = absurd (none-ne-some p h)
-built_done (read_names ns k) p h = absurd (none-ne-some p h)
-built_done (read_comma ns k) p h = absurd (none-ne-some p h)
-built_done (print_word k) p h = absurd (none-ne-some p h)
-built_done (operand b k) p h = absurd (none-ne-some p h)
-built_done (after b f k) p h = absurd (none-ne-some p h)
-built_done (done cs) p h = (cs, refl, some-injective (program_tree cs) p h)
+built_done c p h = grind arith
 
 done_sound : (ts : List Token) (cs : Statements) → run begun ts ≡ some (done cs) → Parses ts (program_tree cs)
 done_sound ts cs e =

@@ -39,9 +39,6 @@ record FromMany {C A : Type 0} (tree : C → A) (tokens : C → List Token → L
   more_is : tail tree it ≡ bs
   has_tokens : (r : List Token) → left_t tokens by it r ≡ ts ++ r
 
-cons_is : {A : Type 0} (a b : A) (bs cs : List A) → a ≡ b → bs ≡ cs → a ∷ bs ≡ b ∷ cs
-cons_is a b bs cs p q = (λ i. p i ∷ q i)
-
 -- x, the token by, y, and then r
 joined : {X Y : Type 0} (f : X → List Token → List Token) (g : Y → List Token → List Token) (x : X) (w : Token) (y : Y) (ts us r : List Token) →
     ((q : List Token) → f x q ≡ ts ++ q) → g y r ≡ us ++ r → f x (w ∷ g y r) ≡ (ts ++ w ∷ us) ++ r
@@ -53,7 +50,7 @@ module _ {C A : Type 0} (Part : List Token → A → Type 0) (tree : C → A) (t
   many_more {ts} {us} {a} {b} {bs} x l = record {
     it = cons x.it l.it;
     first_is = cons_head tree x.it l.it ∙ x.is_tree;
-    more_is = cons_tail tree x.it l.it ∙ cons_is (head tree l.it) b (tail tree l.it) bs l.first_is l.more_is;
+    more_is = cons_tail tree x.it l.it ∙ (λ i. l.first_is i ∷ l.more_is i);
     has_tokens = λ r. cons_tokens tokens by x.it l.it r ∙ joined tokens (left_t tokens by) x.it by l.it ts us r x.has_tokens (l.has_tokens r);
   }
 

@@ -1,6 +1,7 @@
 -- `refusal` computes the refusal that counts, and there is one answer.
 use Rattle.std.proofs.Common.{◌≡◌, ℕ, ◌<◌, ◌≤◌, Bool, true, false, cond, ltb, List, [], drop, sym, refl, ap, ◌∙◌, subst, inl, inr, zero-le, arith}
 use mathlib.Core.Option.{Option, none, some, none-ne-some}
+use Rattle.std.proofs.Math.Nat.{le_antisymm, not-le_of_lt}
 use Rattle.std.proofs.lemmas.Bool.{ltb-true, ltb-false, cases_order}
 use Rattle.token.specs.Tokens.{Token, Placed}
 use Rattle.trees.specs.Trees.{Program}
@@ -67,20 +68,14 @@ module _ (w : Words) (size : Program → ℕ) (n : ℕ) (ts : List Placed) where
       go false e = judge_tokens (ltb-false text_limit n e) (first_refusal w (first_fault all_tokens) n [] ts) (first_is w ts n)
 
   too_long : {A : Type 0} → text_limit < n → n ≤ text_limit → A
-  too_long a b = absurd (no_both a b)
-    where
-      no_both : text_limit < n → n ≤ text_limit → ⊥
-      no_both x y = omega arith
+  too_long a b = absurd (not-le_of_lt a b)
 
   same_token : (k m j l : ℕ) → Rule w all_tokens k m → ((i x : ℕ) → i < k → Rule w all_tokens i x → ⊥) → ((x : ℕ) → Rule w all_tokens k x → m ≤ x) →
       Rule w all_tokens j l → ((i x : ℕ) → i < j → Rule w all_tokens i x → ⊥) → ((x : ℕ) → Rule w all_tokens j x → l ≤ x) → (k ≡ j) × (m ≡ l)
   same_token k m j l r f h s g i = elim (cases_order k j) [
-    | inl e ↦ (e, antisymmetric (h l (subst (λ (x : ℕ). Rule w all_tokens x l) (sym e) s)) (i m (subst (λ (x : ℕ). Rule w all_tokens x m) e r)))
+    | inl e ↦ (e, le_antisymm (h l (subst (λ (x : ℕ). Rule w all_tokens x l) (sym e) s)) (i m (subst (λ (x : ℕ). Rule w all_tokens x m) e r)))
     | inr o ↦ elim o [ inl a ↦ absurd (g k m a r) | inr a ↦ absurd (f j l a s) ]
   ]
-    where
-      antisymmetric : {x y : ℕ} → x ≤ y → y ≤ x → x ≡ y
-      antisymmetric a b = omega arith
 
   same_mention : (k j : ℕ) → Unmet all_tokens k → ((i : ℕ) → i < k → Unmet all_tokens i → ⊥) → Unmet all_tokens j → ((i : ℕ) → i < j → Unmet all_tokens i → ⊥) → k ≡ j
   same_mention k j r f s g = elim (cases_order k j) [ inl e ↦ e | inr o ↦ elim o [ inl a ↦ absurd (g k a r) | inr a ↦ absurd (f j a s) ] ]

@@ -2,12 +2,13 @@
 use Rattle.std.proofs.Common.{◌≡◌, ℕ, zero, suc, ◌+◌, ◌<◌, ◌≤◌, Bool, true, false, cond, not, ◌&&◌, ◌⊎◌, List, [], ◌∷◌, length, ℤ, sym, refl, ap, ◌∙◌, subst, inl, inr, zero-le, le_trans, le_refl, arith}
 use mathlib.Core.List.{reverse_aux}
 use mathlib.Core.Option.{Option, none, some}
+use Rattle.std.proofs.Math.Nat.{ne_of_lt}
 use Rattle.std.proofs.lemmas.Bool.{false≢true, not-true, cases_lt, and_parts, or_cases}
 use Rattle.token.specs.Tokens.{Token, Placed}
 use Rattle.token.specs.Numbers.{word}
 use Rattle.trees.specs.Trees.{Name}
 use Rattle.arithmetic.specs.Words.{Words}
-use Rattle.limits.specs.Uses.{Role, definition, target, listed, variable_use, number_use, Use, made, In, use_at, with_use, uses_before, uses, is_label, Key, label_key, variable_key, number_key, same_key, key_by, key, known, count_if, cells, labels}
+use Rattle.limits.specs.Uses.{Role, variable_use, number_use, Use, made, In, use_at, with_use, uses_before, uses, is_label, Key, label_key, variable_key, number_key, same_key, key_by, key, known, count_if, cells, labels}
 use Rattle.limits.specs.Rules.{cell_limit, label_limit, past, rest, seen, no_cell, no_label, Clear, tokens_of}
 use Rattle.limits.specs.Symbols.{Symbol, first_cell, cells_before, cell, variable_cell, literal_cell, cells_used, symbol, entered, symbols_after, symbols}
 use Rattle.limits.proofs.Keys.{Way, holds, fails, way, clash, same_key_sound, known_complete}
@@ -16,17 +17,13 @@ use Rattle.limits.proofs.Stands.{new_sound}
 use Rattle.limits.proofs.Search.{all_seen}
 
 -- a variable or a number word
-abbrev has_cell : Key → Bool
+abbrev pub has_cell : Key → Bool
 has_cell (label_key x) = false
 has_cell (variable_key x) = true
 has_cell (number_key n) = true
 
-role_cell : (w : Words) (r : Role) (s : List ℕ) → not (is_label r) ≡ has_cell (key_by w r s)
-role_cell w definition s = refl
-role_cell w target s = refl
-role_cell w listed s = refl
-role_cell w variable_use s = refl
-role_cell w number_use s = refl
+pub role_cell : (w : Words) (r : Role) (s : List ℕ) → not (is_label r) ≡ has_cell (key_by w r s)
+role_cell w r s = grind arith
 
 module _ (w : Words) where
   -- a new symbol with a cell adds one
@@ -35,7 +32,7 @@ module _ (w : Words) where
       let a : not (is_label u.role) ≡ true = role_cell w u.role u.spelling ∙ c in
       rw (a, k)
 
-  cells_grow : (u : Use) (us : List Use) → cells w us ≤ cells w (u ∷ us)
+  pub cells_grow : (u : Use) (us : List Use) → cells w us ≤ cells w (u ∷ us)
   cells_grow u us = go (not (is_label u.role) && not (known w (key w u) us))
     where
       go : (b : Bool) → cells w us ≤ count_if b (cells w us)
@@ -43,11 +40,11 @@ module _ (w : Words) where
       go false = omega arith
 
   -- the first use of a known symbol is further back, or it is this one
-  data Place (k : Key) (u : Use) (us : List Use) : Type 0 where
+  pub data Place (k : Key) (u : Use) (us : List Use) : Type 0 where
     older : known w k us ≡ true → Place k u us
     newest : known w k us ≡ false → key w u ≡ k → Place k u us
 
-  place_of : (k : Key) (u : Use) (us : List Use) → known w k (u ∷ us) ≡ true → Place k u us
+  pub place_of : (k : Key) (u : Use) (us : List Use) → known w k (u ∷ us) ≡ true → Place k u us
   place_of k u us e = go (way (known w k us))
     where
       go : Way (known w k us) → Place k u us
@@ -88,13 +85,10 @@ module _ (w : Words) where
   apart k l [] c d e f q = absurd (false≢true e)
   apart k l (u ∷ us) c d e f q = go (place_of k u us e) (place_of l u us f) (λ g h r. apart k l us c d g h r)
     where
-      not_less : {x y : ℕ} → x < y → x ≡ y → ⊥
-      not_less a b = omega arith
-
       go : Place k u us → Place l u us → (known w k us ≡ true → known w l us ≡ true → cells_before w k us ≡ cells_before w l us → k ≡ l) → k ≡ l
       go (older g) (older h) ih = ih g h (sym (before_older k u us g) ∙ q ∙ before_older l u us h)
-      go (older g) (newest h r) ih = absurd (not_less (below k us c g) (sym (before_older k u us g) ∙ q ∙ before_newest l u us h))
-      go (newest g r) (older h) ih = absurd (not_less (below l us d h) (sym (before_older l u us h) ∙ sym q ∙ before_newest k u us g))
+      go (older g) (newest h r) ih = absurd (ne_of_lt (below k us c g) (sym (before_older k u us g) ∙ q ∙ before_newest l u us h))
+      go (newest g r) (older h) ih = absurd (ne_of_lt (below l us d h) (sym (before_older l u us h) ∙ sym q ∙ before_newest k u us g))
       go (newest g r) (newest h s) ih = sym r ∙ s
 
   used_known : (u : Use) (us : List Use) → In u us → known w (key w u) us ≡ true
@@ -120,7 +114,7 @@ module _ (w : Words) (ts : List Token) where
   numbers_apart x d i j e = differ_key (cell_apart (made variable_use x) (made number_use d) i j refl refl e)
     where
       differ_key : variable_key x ≡ number_key (word w d) → ⊥
-      differ_key q = let z : ◌≡◌ {A = ℕ} 0 1 = cc in omega arith
+      differ_key q = grind arith
 
   pub words_apart : (d e : List ℕ) → In (made number_use d) (uses ts) → In (made number_use e) (uses ts) → literal_cell w ts d ≡ literal_cell w ts e → word w d ≡ word w e
   words_apart d e i j q = number_of (word w d) (word w e) (cell_apart (made number_use d) (made number_use e) i j refl refl q)
@@ -190,10 +184,7 @@ module _ (w : Words) (address : Name → ℕ) where
   count us = cells w us + labels w us
 
   counted : (a b : Bool) (c l : ℕ) → count_if (not a && not b) c + count_if (a && not b) l ≡ cond b (c + l) (suc (c + l))
-  counted true true c l = refl
-  counted true false c l = omega arith
-  counted false true c l = refl
-  counted false false c l = omega arith
+  counted a b c l = grind arith
 
   entered_count : (us : List Use) (p : ℕ) (o : Option Use) (ss : List Symbol) →
       count (with_use o us) + length ss ≡ count us + length (entered w address us p o ss)

@@ -3,7 +3,7 @@ use Rattle.grammar.specs.declared.state.State.{State}
 use Rattle.grammar.specs.declared.state.State.TheVariants.{Next}
 use Rattle.token.specs.declared.kinds.Keyword.TheVariants.{Let, Go, To, Of, Read, Print, If, Then, Else}
 use Rattle.token.specs.declared.kinds.Sign.TheVariants.{Semicolon, Becomes, Open, Close, Comma}
-use Rattle.std.proofs.Common.{◌≡◌, ℕ, zero, suc, pred, ◌+◌, ◌<◌, ◌≤◌, Bool, true, false, cond, List, [], ◌∷◌, reverse, length, sym, refl, ap, ◌∙◌, subst, inl, inr, zero-le, le_trans, arith}
+use Rattle.std.proofs.Common.{◌≡◌, ℕ, zero, suc, pred, ◌+◌, ◌<◌, ◌≤◌, Bool, true, false, cond, List, [], ◌∷◌, reverse, length, sym, refl, ap, ◌∙◌, subst, inl, inr, arith}
 use mathlib.Core.Option.{Option, none, some, map, some-injective, none-ne-some}
 use Rattle.std.proofs.lemmas.Bool.{cases_lt}
 use Rattle.token.specs.Tokens.{Token, name, keyword, sign}
@@ -36,15 +36,9 @@ length_c : (k : InCommands) → length (erase_c k) ≤ 1 + length (parts (past_c
 length_c first_command = omega arith
 length_c (after_commands cs) = omega arith
 length_c (under_label n k) = length_c k
-length_c (then_part x o y k) = rw (if_parts x o y (past_c k)) (deeper (length (erase_c k)) (length (parts (past_c k))) (length_c k))
-  where
-    deeper : (m n : ℕ) → m ≤ 1 + n → suc m ≤ 1 + suc n
-    deeper m n h = omega arith
+length_c (then_part x o y k) = rw (if_parts x o y (past_c k)) (omega (arith, length_c k))
 length_c (else_part x o y c k) =
-    rw (statement_parts c (keyword Then ∷ sum_b y (relation_sign o ∷ sum_b x (keyword If ∷ past_c k))), if_parts x o y (past_c k)) (wider (length (erase_c k)) (length (parts (past_c k))) (length_c k))
-  where
-    wider : (m n : ℕ) → m ≤ 1 + n → m ≤ 1 + suc n
-    wider m n h = omega arith
+    rw (statement_parts c (keyword Then ∷ sum_b y (relation_sign o ∷ sum_b x (keyword If ∷ past_c k))), if_parts x o y (past_c k)) (omega (arith, length_c k))
 
 bounded : (m : ℕ) (k : InCommands) (b : List Token) → parts b ≡ parts (past_c k) → m ≤ length (erase_c k) + 1 → m ≤ 2 + (length (parts b) + depth b)
 bounded m k b e h =
@@ -187,18 +181,11 @@ role_by_state ts s k j n r e h =
     ap (λ (b : List Token). name_role b r) c.2 ∙ role_config c.0 j n r g ∙ ap (λ (x : List State). state_role (top x) (before_of r)) c.1
 
 -- Nesting stays within its limits as long as no refusal stands.
-pred_below : (n : ℕ) → pred n ≤ n
-pred_below zero = zero-le
-pred_below (suc n) = omega arith
-
 depth_step : (t : Token) (b : List Token) → depth b ≤ depth_limit → (is (sign Open) t ≡ true → depth b < depth_limit) → depth (t ∷ b) ≤ depth_limit
 depth_step t b h g = go (is (sign Open) t) (is (sign Close) t) (in_expression t) g
   where
     go : (x y z : Bool) → (x ≡ true → depth b < depth_limit) → cond x (suc (depth b)) (cond y (pred (depth b)) (cond z (depth b) 0)) ≤ depth_limit
-    go true y z f = f refl
-    go false true z f = le_trans (pred_below (depth b)) h
-    go false false true f = h
-    go false false false f = zero-le
+    go x y z f = grind arith
 
 after_else_shorter : (ps : List Part) → length (after_else ps) ≤ length ps
 after_else_shorter [] = omega arith

@@ -7,7 +7,6 @@ use Rattle.std.proofs.lemmas.Bool.{cases_lt}
 use Rattle.token.specs.Tokens.{Token, name, number, keyword, sign}
 use Rattle.trees.specs.Trees.{Name, Program, commands}
 use Rattle.trees.specs.declared.relation.Relation.{Relation}
-use Rattle.trees.specs.declared.relation.Relation.TheVariants.{Greater as greater, Equal as equal, Less as less}
 use Rattle.arithmetic.specs.Words.{Words}
 use Rattle.grammar.specs.Grammar.{relation_sign, Parses}
 use Rattle.grammar.specs.Concrete.{AddSign, adds, takes, MulSign, multiplies, divides, Factor, var, lit, group, Term, factor, multiply, Sum, term, add, sole, then, Names, Sums, Statement, label, nil, set, jump, pick, read_none, read_some, print_none, print_some, test, Statements, add_sign, mul_sign, factor_t, term_t, sum_t, name_t, names_t, sums_t, statement_t, statements_t, program_t, factor_tree, term_tree, sum_tree, head, tail, same_name, command_tree}
@@ -15,7 +14,8 @@ use Rattle.grammar.proofs.Yields.{parsed_to}
 use Rattle.limits.specs.Uses.{Role, listed, made, after_of, use_of, is_operator, operators, names}
 use Rattle.limits.specs.Rules.{operator_limit, list_limit, past, rest, many_operators, long_list, Clear}
 use Rattle.limits.specs.Programs.{operator_count, Small, All, Fits}
-use Rattle.limits.proofs.Lists.{drop_next, past_next}
+use Rattle.grammar.proofs.Lists.{drop_next}
+use Rattle.limits.proofs.Lists.{past_next}
 use Rattle.limits.proofs.Scans.{factor_b, term_b, sum_b, left_b, statement_b, Listing, listing_role}
 
 -- neither refusal 9 nor 11 stands at the token t between b and r
@@ -129,9 +129,7 @@ whole e b r h c = go (sum_calm e b r c)
         (x.calm, omega arith)
 
 relation_none : (o : Relation) (b : List Token) → operators (relation_sign o ∷ b) ≡ 0
-relation_none greater b = refl
-relation_none equal b = refl
-relation_none less b = refl
+relation_none o b = grind arith
 
 all_snoc : {A : Type 0} (P : A → Type 0) (xs : List A) (y : A) → All P xs → P y → All P (xs ++ y ∷ [])
 all_snoc P [] y h p = (p, tt)

@@ -1,7 +1,7 @@
 -- Tests of keys and of uses in lists decide what they say.
-use Rattle.std.proofs.Common.{◌≡◌, ℕ, Bool, true, false, ◌&&◌, List, [], ◌∷◌, ℤ, pos, negsuc, sym, refl, ap, ◌∙◌, subst, inl, inr}
+use Rattle.std.proofs.Common.{◌≡◌, ℕ, Bool, true, false, ◌&&◌, List, [], ◌∷◌, ℤ, pos, negsuc, sym, refl, ap, ◌∙◌, subst, inl, inr, arith}
 use Rattle.std.proofs.lemmas.Slice.Eq.{bytes_eq-Decides}
-use Rattle.std.proofs.lemmas.Bool.{false≢true, eqb-true, eq-eqb, and_parts, and_from, or_cases, or_left, or_right}
+use Rattle.std.proofs.lemmas.Bool.{false≢true, eq-eqb, and_parts, and_from, or_cases, or_left, or_right}
 use Rattle.std.specs.Str.{bytes_eq}
 use Rattle.arithmetic.specs.Words.{Words}
 use Rattle.limits.specs.Uses.{Role, Use, made, In, at_head, in_tail, Key, label_key, variable_key, number_key, same_word, same_key, key, known}
@@ -20,10 +20,7 @@ pub clash : {b : Bool} → b ≡ true → b ≡ false → ⊥
 clash p q = false≢true (sym q ∙ p)
 
 pub same_word_sound : (m n : ℤ) → same_word m n ≡ true → m ≡ n
-same_word_sound (pos m) (pos n) e = ap pos (eqb-true m n e)
-same_word_sound (pos m) (negsuc n) e = absurd (false≢true e)
-same_word_sound (negsuc m) (pos n) e = absurd (false≢true e)
-same_word_sound (negsuc m) (negsuc n) e = ap negsuc (eqb-true m n e)
+same_word_sound m n e = grind arith
 
 pub same_word_refl : (m : ℤ) → same_word m m ≡ true
 same_word_refl (pos m) = eq-eqb m m refl

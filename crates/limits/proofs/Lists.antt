@@ -1,53 +1,22 @@
 -- Places in a list of tokens: one token further.
-use Rattle.std.proofs.Common.{◌≡◌, ℕ, zero, suc, ◌<◌, ◌⊎◌, List, [], ◌∷◌, ◌++◌, reverse, take, drop, sym, refl, ap, ◌∙◌, subst, inl, inr, le_of_suc-le-suc, not-suc-le-zero, eq-or-lt_of_le, arith}
-use mathlib.Core.List.{reverse_aux-append}
+use Rattle.std.proofs.Common.{◌≡◌, ℕ, zero, suc, ◌<◌, ◌≤◌, length, length-drop, ◌⊎◌, List, [], ◌∷◌, reverse, take, drop, sym, refl, ap, ◌∙◌, subst, inl, inr, le_of_suc-le-suc, not-suc-le-zero, eq-or-lt_of_le, arith}
 use mathlib.Core.Option.{Option, none, some, some-injective, none-ne-some}
+use Rattle.std.proofs.lemmas.List.{drop_all, take_all, reverse-append}
 use Rattle.token.specs.Tokens.{Token}
+use Rattle.grammar.proofs.Lists.{drop_next, take_next}
 use Rattle.limits.specs.Uses.{Role, Use, made, In, at_head, in_tail, use_at, with_use}
 use Rattle.limits.specs.Rules.{past, rest, seen, Earlier}
 
-pub cons_nil : {A : Type 0} {x : A} {xs : List A} → x ∷ xs ≡ [] → ⊥
-cons_nil q = let z : ◌≡◌ {A = ℕ} 0 1 = cc in omega arith
+module _ {A : Type 0} (k : ℕ) (l : List A) (e : drop k l ≡ []) where
+  pub drop_some : length l ≤ k
+  drop_some = let d = length-drop k l in let m = ap length e in omega arith
 
-module _ {A : Type 0} where
-  cons_tail : (x y : A) (xs ys : List A) → x ∷ xs ≡ y ∷ ys → xs ≡ ys
-  cons_tail x y xs ys q = cc
-
-  cons_head : (x y : A) (xs ys : List A) → x ∷ xs ≡ y ∷ ys → x ≡ y
-  cons_head x y xs ys q = cc
-
-  -- one further
-  pub drop_next : (k : ℕ) (l : List A) (x : A) (xs : List A) → drop k l ≡ x ∷ xs → drop (suc k) l ≡ xs
-  drop_next zero [] x xs e = absurd (cons_nil (sym e))
-  drop_next zero (y ∷ ys) x xs e = cons_tail y x ys xs e
-  drop_next (suc k) [] x xs e = absurd (cons_nil (sym e))
-  drop_next (suc k) (y ∷ ys) x xs e = drop_next k ys x xs e
-
-  pub take_next : (k : ℕ) (l : List A) (x : A) (xs : List A) → drop k l ≡ x ∷ xs → take (suc k) l ≡ take k l ++ x ∷ []
-  take_next zero [] x xs e = absurd (cons_nil (sym e))
-  take_next zero (y ∷ ys) x xs e = ap (λ (v : A). v ∷ []) (cons_head y x ys xs e)
-  take_next (suc k) [] x xs e = absurd (cons_nil (sym e))
-  take_next (suc k) (y ∷ ys) x xs e = ap (λ (v : List A). y ∷ v) (take_next k ys x xs e)
-
-  -- at the end
-  pub drop_end : (k : ℕ) (l : List A) → drop k l ≡ [] → drop (suc k) l ≡ []
-  drop_end zero [] e = refl
-  drop_end zero (y ∷ ys) e = absurd (cons_nil e)
-  drop_end (suc k) [] e = refl
-  drop_end (suc k) (y ∷ ys) e = drop_end k ys e
-
-  pub take_end : (k : ℕ) (l : List A) → drop k l ≡ [] → take (suc k) l ≡ take k l
-  take_end zero [] e = refl
-  take_end zero (y ∷ ys) e = absurd (cons_nil e)
-  take_end (suc k) [] e = refl
-  take_end (suc k) (y ∷ ys) e = ap (λ (v : List A). y ∷ v) (take_end k ys e)
-
-  pub reverse_snoc : (l : List A) (x : A) → reverse (l ++ x ∷ []) ≡ x ∷ reverse l
-  reverse_snoc l x = reverse_aux-append l (x ∷ []) []
+  pub take_end : take (suc k) l ≡ take k l
+  take_end = take_all (suc k) l (omega (arith, drop_some)) ∙ sym (take_all k l drop_some)
 
 module _ (ts : List Token) where
   pub past_next : (k : ℕ) (t : Token) (r : List Token) → rest ts k ≡ t ∷ r → past ts (suc k) ≡ t ∷ past ts k
-  past_next k t r e = ap reverse (take_next k ts t r e) ∙ reverse_snoc (take k ts) t
+  past_next k t r e = ap reverse (take_next k ts t r e) ∙ reverse-append (take k ts) (t ∷ [])
 
   -- the uses seen grow by that of the k-th token, if it has one
   pub seen_next : (k : ℕ) → seen ts (suc k) ≡ with_use (use_at (past ts k) (rest ts k)) (seen ts k)
@@ -56,7 +25,7 @@ module _ (ts : List Token) where
       go : (r : List Token) → rest ts k ≡ r → seen ts (suc k) ≡ with_use (use_at (past ts k) (rest ts k)) (seen ts k)
       go [] e =
           let a : past ts (suc k) ≡ past ts k = ap reverse (take_end k ts e) in
-          let b : rest ts (suc k) ≡ [] = drop_end k ts e in
+          let b : rest ts (suc k) ≡ [] = drop_all (suc k) ts (omega (arith, drop_some k ts e)) in
           rw (a, b, e)
       go (t ∷ r) e =
           let a : past ts (suc k) ≡ t ∷ past ts k = past_next k t r e in

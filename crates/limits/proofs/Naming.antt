@@ -1,8 +1,8 @@
 -- What the refusals 4, 5, 6 and 12 leave of the names of a program's tree.
-use Rattle.std.proofs.Common.{◌≡◌, ℕ, zero, suc, ◌≤◌, Bool, true, false, ◌⊎◌, List, [], ◌∷◌, length, sym, refl, ap, ◌∙◌, subst, inl, inr}
+use Rattle.std.proofs.Common.{◌≡◌, ℕ, zero, suc, ◌≤◌, Bool, true, false, ◌⊎◌, List, [], ◌∷◌, length, sym, refl, ap, ◌∙◌, subst, inl, inr, arith}
 use mathlib.Core.List.{reverse_aux}
 use mathlib.Core.Option.{Option, none, some, some-injective}
-use Rattle.std.proofs.lemmas.Bool.{false≢true, cases_lt, cases_order}
+use Rattle.std.proofs.lemmas.Bool.{cases_lt, cases_order}
 use Rattle.token.specs.Tokens.{Token}
 use Rattle.trees.specs.Trees.{Name, Program}
 use Rattle.arithmetic.specs.Words.{Words}
@@ -78,10 +78,7 @@ module _ (ts : List Token) (p : Program) (d : Parses ts p) where
     one_kind r q x i j l m = same_bool (is_label r) (is_label q) (λ h. go h (at_index r x i) (at_index q x j))
       where
         same_bool : (a b : Bool) → ((a ≡ b → ⊥) → ⊥) → a ≡ b
-        same_bool true true h = refl
-        same_bool true false h = absurd (h (λ e. false≢true (sym e)))
-        same_bool false true h = absurd (h (λ e. false≢true e))
-        same_bool false false h = refl
+        same_bool a b h = grind arith
 
         go : (is_label r ≡ is_label q → ⊥) → (k : ℕ) × Used ts k r x → (k : ℕ) × Used ts k q x → ⊥
         go h a b = elim (cases_order a.0 b.0) [

@@ -1,6 +1,6 @@
 -- One pass finds the first refusal.
 use Rattle.grammar.specs.declared.state.State.{State}
-use Rattle.std.proofs.Common.{◌≡◌, ℕ, suc, ◌≤◌, true, false, List, [], ◌∷◌, ◌++◌, length, take, drop, sym, refl, ap, ◌∙◌, subst, append-nil, take-append-drop}
+use Rattle.std.proofs.Common.{◌≡◌, ℕ, suc, ◌≤◌, true, false, List, [], ◌∷◌, length, take, drop, sym, refl, ap, ◌∙◌, subst}
 use mathlib.Core.Option.{Option, none, some}
 use lib.ListN.{length-reverse}
 use Rattle.std.proofs.lemmas.Bool.{eq-eqb, ne_eqb}
@@ -13,7 +13,9 @@ use Rattle.grammar.proofs.Faults.{some_fault, program_none, fault_some}
 use Rattle.limits.specs.Rules.{tokens_of, Refused}
 use Rattle.limits.specs.Refusals.{lowest, or_else, fault_at, limit_checks, checks, refused, first_refusal}
 use Rattle.limits.specs.Pass.{or_fault, pass}
-use Rattle.limits.proofs.Search.{At, at_rest, at_next, at_start, drop_some}
+use Rattle.std.proofs.lemmas.List.{take_all}
+use Rattle.limits.proofs.Lists.{drop_some}
+use Rattle.limits.proofs.Search.{At, at_rest, at_next, at_start}
 
 module _ (w : Words) (n : ℕ) (ts : List Placed) where
   abbrev whole_list : List Token
@@ -39,7 +41,7 @@ module _ (w : Words) (n : ℕ) (ts : List Placed) where
   not_three before after e = rw e
 
   all_taken : (k : ℕ) → drop k whole_list ≡ [] → take k whole_list ≡ whole_list
-  all_taken k e = sym (append-nil (take k whole_list)) ∙ ap (λ (r : List Token). take k whole_list ++ r) (sym e) ∙ take-append-drop k whole_list
+  all_taken k e = take_all k whole_list (drop_some k whole_list e)
 
   -- at the end
   pass_end : (k : ℕ) (before : List Token) (s : List State) → At ts k before [] → reach whole_list ≡ some s →

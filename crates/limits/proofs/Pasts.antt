@@ -1,12 +1,11 @@
 -- The tokens of a configuration, newest first, and how deep it is nested by them.
 use Rattle.token.specs.declared.kinds.Keyword.TheVariants.{End, Let, Go, To, Of, Read, Print, If, Then, Else}
 use Rattle.token.specs.declared.kinds.Sign.TheVariants.{Semicolon, Colon, Becomes, Open, Close, Comma}
-use Rattle.std.proofs.Common.{◌≡◌, pred, List, [], ◌∷◌, reverse, sym, refl, ap, ◌∙◌, append-nil}
+use Rattle.std.proofs.Common.{◌≡◌, pred, List, [], ◌∷◌, reverse, sym, refl, ap, ◌∙◌, append-nil, arith}
 use mathlib.Core.List.{reverse_aux}
 use mathlib.Core.Option.{some}
 use Rattle.token.specs.Tokens.{Token, name, keyword, sign}
 use Rattle.trees.specs.declared.relation.Relation.{Relation}
-use Rattle.trees.specs.declared.relation.Relation.TheVariants.{Greater as greater, Equal as equal, Less as less}
 use Rattle.grammar.specs.Grammar.{relation_sign}
 use Rattle.grammar.specs.Concrete.{AddSign, adds, takes, MulSign, multiplies, divides, Factor, var, lit, group, Term, factor, multiply, Sum, term, add, Left, sole, then, Names, Sums, Statement, label, nil, set, jump, pick, read_none, read_some, print_none, print_some, test, Statements, add_sign, mul_sign, factor_t, term_t, sum_t, left_t, name_t, names_t, sums_t, statement_t, statements_t}
 use Rattle.grammar.specs.Machine.{InCommands, first_command, after_commands, under_label, then_part, else_part, BeforeTerm, no_sum, sum, BeforeFactor, no_product, product, InCommand, of_assign, of_left, of_right, of_print, of_prints, of_group, Config, start, labelling, let_word, let_name, go_word, to_word, to_name, of_word, of_names, of_comma, read_word, read_names, read_comma, print_word, operand, after, done, run, begun}
@@ -166,9 +165,7 @@ add_parts adds b = (refl, refl)
 add_parts takes b = (refl, refl)
 
 pub relation_parts : (o : Relation) (b : List Token) → parts (relation_sign o ∷ b) ≡ parts b
-relation_parts greater b = refl
-relation_parts equal b = refl
-relation_parts less b = refl
+relation_parts o b = grind arith
 
 mutual
   pub factor_parts : (f : Factor) (b : List Token) → (parts (factor_b f b) ≡ parts b) × (depth (factor_b f b) ≡ depth b)

@@ -2,13 +2,12 @@
 use Rattle.token.specs.declared.kinds.Keyword.TheVariants.{End, Let, Go, To, Of, Read, Print, If, Then, Else}
 use Rattle.token.specs.declared.kinds.Sign.{Sign}
 use Rattle.token.specs.declared.kinds.Sign.TheVariants.{Semicolon, Colon, Becomes, Open, Close, Comma}
-use Rattle.std.proofs.Common.{◌≡◌, true, false, List, [], ◌∷◌, ◌++◌, reverse, sym, refl, ap, ◌∙◌, append_assoc, append-nil}
+use Rattle.std.proofs.Common.{◌≡◌, true, false, List, [], ◌∷◌, ◌++◌, reverse, sym, refl, ap, ◌∙◌, append_assoc, append-nil, arith}
 use mathlib.Core.List.{reverse_aux}
 use mathlib.Core.Option.{Option, none, some}
 use Rattle.token.specs.Tokens.{Token, name, number, keyword, sign}
 use Rattle.trees.specs.Trees.{Program}
 use Rattle.trees.specs.declared.relation.Relation.{Relation}
-use Rattle.trees.specs.declared.relation.Relation.TheVariants.{Greater as greater, Equal as equal, Less as less}
 use Rattle.grammar.specs.Grammar.{relation_sign, Parses}
 use Rattle.grammar.specs.Concrete.{AddSign, adds, takes, MulSign, multiplies, divides, Factor, var, lit, group, Term, factor, multiply, Sum, term, add, Left, sole, then, Names, Sums, Statement, label, nil, set, jump, pick, read_none, read_some, print_none, print_some, test, Statements, add_sign, mul_sign, factor_t, term_t, sum_t, left_t, name_t, names_t, sums_t, statement_t, statements_t, program_t, factor_tree, term_tree, sum_tree, head, tail, same_name, command_tree, program_tree}
 use Rattle.grammar.proofs.Yields.{parsed_to}
@@ -105,9 +104,7 @@ add_plain adds b e = record { no_start = refl; no_to = refl; no_of = e }
 add_plain takes b e = record { no_start = refl; no_to = refl; no_of = e }
 
 pub relation_plain : (o : Relation) (b : List Token) → after_of b ≡ false → Plain (relation_sign o ∷ b)
-relation_plain greater b e = record { no_start = refl; no_to = refl; no_of = e }
-relation_plain equal b e = record { no_start = refl; no_to = refl; no_of = e }
-relation_plain less b e = record { no_start = refl; no_to = refl; no_of = e }
+relation_plain o b e = grind arith
 
 sign_plain : (s : Sign) (b : List Token) → command_starts (sign s ∷ b) ≡ false → after_of b ≡ false → Plain (sign s ∷ b)
 sign_plain s b h e = record { no_start = h; no_to = refl; no_of = e }
@@ -121,9 +118,7 @@ add_scan adds b r = refl
 add_scan takes b r = refl
 
 relation_scan : (o : Relation) (b r : List Token) → scan b (relation_sign o ∷ r) ≡ scan (relation_sign o ∷ b) r
-relation_scan greater b r = refl
-relation_scan equal b r = refl
-relation_scan less b r = refl
+relation_scan o b r = grind arith
 
 -- the uses us, then vs, then the rest
 chained : (us vs ws xs ys : List Use) → xs ≡ us ++ ys → ys ≡ vs ++ ws → xs ≡ (us ++ vs) ++ ws

@@ -1,10 +1,12 @@
 -- The first refusal of a list of tokens, and the first mention of a label that stands before no command.
 use Rattle.token.specs.declared.kinds.Keyword.TheVariants.{If}
 use Rattle.token.specs.declared.kinds.Sign.TheVariants.{Open}
-use Rattle.std.proofs.Common.{◌≡◌, ℕ, zero, suc, ◌<◌, ◌≤◌, Bool, true, false, cond, not, ◌&&◌, List, [], ◌∷◌, length, take, drop, sym, refl, ap, ◌∙◌, subst, inl, inr, suc-le-suc, le_of_suc-le-suc, not-suc-le-zero, eq-or-lt_of_le, arith}
+use Rattle.std.proofs.Common.{◌≡◌, ℕ, suc, ◌<◌, ◌≤◌, Bool, true, false, cond, not, ◌&&◌, List, [], ◌∷◌, length, take, drop, sym, refl, ap, ◌∙◌, subst, inl, inr, eq-or-lt_of_le, arith}
 use mathlib.Core.Option.{Option, none, some, some-injective, none-ne-some}
 use lib.Seq.{take-length}
-use Rattle.std.proofs.lemmas.Bool.{false≢true, not-true, cases_lt, and_parts, and_from, not_from_false}
+use Rattle.std.proofs.Math.Nat.{not-le_of_lt}
+use Rattle.std.proofs.lemmas.List.{drop_all, drop-map}
+use Rattle.std.proofs.lemmas.Bool.{false_from_ne_true, false≢true, not-true, cases_lt, and_parts, and_from, not_from_false}
 use Rattle.token.specs.Tokens.{Token, keyword, sign, Placed}
 use Rattle.arithmetic.specs.Words.{Words}
 use Rattle.grammar.specs.Tests.{is}
@@ -13,8 +15,9 @@ use Rattle.grammar.specs.Recogniser.{first_fault}
 use Rattle.limits.specs.Uses.{Role, definition, listed, Use, made, In, use_at, uses, is_definition, is_label, is_operator}
 use Rattle.limits.specs.Rules.{here, past, rest, seen, Used, Earlier, Unmet, Rule, no_program, long_name, second_definition, other_kind, no_cell, no_label, many_operators, deep_parenthesis, deep_if, long_list, tokens_of, place, Refused}
 use Rattle.limits.specs.Refusals.{lowest, or_else, among, checks, refused, first_refusal, unmet, first_unmet}
-use Rattle.limits.proofs.Keys.{Way, holds, fails, way, clash, among_sound, among_complete}
-use Rattle.limits.proofs.Lists.{cons_nil, drop_next, past_next, earlier_seen, seen_earlier}
+use Rattle.limits.proofs.Keys.{clash, among_sound, among_complete}
+use Rattle.grammar.proofs.Lists.{drop_next}
+use Rattle.limits.proofs.Lists.{drop_some, past_next, earlier_seen, seen_earlier}
 use Rattle.limits.proofs.Checks.{Ordered, Lowest, lowest_is}
 use Rattle.limits.proofs.Stands.{only_definition, all, found_rule, rule_found}
 
@@ -25,14 +28,9 @@ module _ (ts : List Placed) where
     pub is_rest : drop k ts ≡ after
     pub is_index : length before ≡ k
 
-map_drop : (k : ℕ) (ts : List Placed) → drop k (tokens_of ts) ≡ tokens_of (drop k ts)
-map_drop zero ts = refl
-map_drop (suc k) [] = refl
-map_drop (suc k) (p ∷ ps) = map_drop k ps
-
 module _ (ts : List Placed) where
   pub at_rest : (k : ℕ) (before : List Token) (after : List Placed) → At ts k before after → rest (tokens_of ts) k ≡ tokens_of after
-  at_rest k before after a = map_drop k ts ∙ ap tokens_of a.is_rest
+  at_rest k before after a = drop-map (λ (p : Placed). p.token) k ts ∙ ap tokens_of a.is_rest
 
   pub at_next : (k : ℕ) (before : List Token) (p : Placed) (ps : List Placed) → At ts k before (p ∷ ps) → At ts (suc k) (p.token ∷ before) ps
   at_next k before p ps a = record {
@@ -45,17 +43,6 @@ module _ (ts : List Placed) where
   at_start = record { is_past = refl; is_rest = refl; is_index = refl }
 
 -- past the end there is no use and no rule
-drop_all : {A : Type 0} (k : ℕ) (l : List A) → length l ≤ k → drop k l ≡ []
-drop_all zero [] h = refl
-drop_all zero (x ∷ xs) h = absurd (not-suc-le-zero h)
-drop_all (suc k) [] h = refl
-drop_all (suc k) (x ∷ xs) h = drop_all k xs (le_of_suc-le-suc h)
-
-pub drop_some : {A : Type 0} (k : ℕ) (l : List A) → drop k l ≡ [] → length l ≤ k
-drop_some k [] e = omega arith
-drop_some zero (x ∷ xs) e = absurd (cons_nil e)
-drop_some (suc k) (x ∷ xs) e = suc-le-suc (drop_some k xs e)
-
 module _ (ts : List Token) where
   pub used_within : (k : ℕ) (r : Role) (s : List ℕ) → Used ts k r s → k < length ts
   used_within k r s u = elim (cases_lt k (length ts)) [ inl l ↦ l | inr g ↦ absurd (never (drop_all k ts g)) ]
@@ -133,12 +120,9 @@ module _ (w : Words) (ts : List Placed) where
       from = omega arith;
       answer = ap (λ (q : ℕ). record { number = m; place = q }) (sym e);
       rule = s.0;
-      first = λ j l a b r. absurd (not_between k j a b);
+      first = λ j l a b r. absurd (not-le_of_lt b a);
       least = s.1;
     }
-      where
-        not_between : (x y : ℕ) → x ≤ y → y < x → ⊥
-        not_between x y a b = omega arith
 
     -- none here: the first further on
     further : (k : ℕ) → Standing w toks k none → (o : Option Refused) → Result (suc k) o → Result k o
@@ -232,14 +216,11 @@ missing_here ts k = go (use_at (past ts k) (rest ts k)) refl
         )
     by u e false h = λ x.
         let q : u ≡ made x.role x.spelling = same u e x in
-        let f : among is_definition x.spelling (uses ts) ≡ false = nowhere_false x (way (among is_definition x.spelling (uses ts))) in
+        let f : among is_definition x.spelling (uses ts) ≡ false =
+        false_from_ne_true (among is_definition x.spelling (uses ts)) (λ z. let d = defined_somewhere ts x.spelling z in x.nowhere d.0 d.1) in
         let g : (is_label x.role && not (among is_definition x.spelling (uses ts))) ≡ true =
         and_from (is_label x.role) (not (among is_definition x.spelling (uses ts))) x.label (not_from_false (among is_definition x.spelling (uses ts)) f) in
         clash (subst (λ (v : Use). (is_label v.role && not (among is_definition v.spelling (uses ts))) ≡ true) (sym q) g) h
-      where
-        nowhere_false : (x : Unmet ts k) → Way (among is_definition x.spelling (uses ts)) → among is_definition x.spelling (uses ts) ≡ false
-        nowhere_false x (fails z) = z
-        nowhere_false x (holds z) = let d = defined_somewhere ts x.spelling z in absurd (x.nowhere d.0 d.1)
 
     go : (o : Option Use) → use_at (past ts k) (rest ts k) ≡ o → Missing ts k (unmet (uses ts) o)
     go none e = unused e
@@ -287,9 +268,6 @@ module _ (ts : List Placed) (n : ℕ) where
       go (unmet (uses texts) (use_at before (p.token ∷ tokens_of ps))) (missing k before (p ∷ ps) a)
       (first_unmet (uses texts) (p.token ∷ before) ps) (unmet_from ps (suc k) (p.token ∷ before) (at_next ts k before p ps a))
     where
-      not_between : (x y : ℕ) → x ≤ y → y < x → ⊥
-      not_between x y b c = omega arith
-
       go : (o : Option ℕ) → Missing texts k o → (x : Option Refused) → UnmetResult (suc k) x → UnmetResult k (or_else (refused o p.offset) x)
       go none s x h = unmet_further k s x h
       go (some m) s x h = record {
@@ -297,7 +275,7 @@ module _ (ts : List Placed) (n : ℕ) where
         from = omega arith;
         answer = (λ i. record { number = s.0 i; place = ap (place n) (sym a.is_rest) i });
         unmet_it = s.1;
-        first = λ j b c d. not_between k j b c;
+        first = λ j b c d. not-le_of_lt c b;
       }
 
   pub unmet_is : UnmetResult 0 (first_unmet (uses texts) [] ts)

@@ -1,19 +1,19 @@
 -- Each check at a token is true exactly if its rule stands there.
 use Rattle.token.specs.declared.kinds.Keyword.TheVariants.{If}
 use Rattle.token.specs.declared.kinds.Sign.TheVariants.{Open}
-use Rattle.std.proofs.Common.{◌≡◌, ℕ, ◌≤◌, Bool, true, false, not, ◌&&◌, ltb, leb, List, length, sym, refl, ap, ◌∙◌, subst, inl, inr}
+use Rattle.std.proofs.Common.{◌≡◌, ℕ, ◌≤◌, Bool, true, not, ◌&&◌, ltb, leb, List, length, sym, refl, ap, ◌∙◌, subst, inl, inr, arith}
 use mathlib.Core.Option.{Option, none, some}
-use Rattle.std.proofs.lemmas.Bool.{false≢true, not-true, ltb-true, leb-true, eqb-true, lt-ltb, le-leb, eq-eqb, and_parts, and_from, not_from_false}
+use Rattle.std.proofs.lemmas.Bool.{false_from_ne_true, false≢true, not-true, ltb-true, leb-true, eqb-true, lt-ltb, le-leb, eq-eqb, and_parts, and_from, not_from_false}
 use Rattle.token.specs.Tokens.{Token, keyword, sign}
 use Rattle.arithmetic.specs.Words.{Words}
 use Rattle.grammar.specs.Tests.{is}
 use Rattle.grammar.specs.Grammar.{Fault}
 use Rattle.grammar.specs.Recogniser.{first_fault}
 use Rattle.grammar.proofs.Faults.{some_fault, fault_some}
-use Rattle.limits.specs.Uses.{Role, definition, target, listed, variable_use, number_use, Use, made, In, use_at, is_literal, is_definition, is_listed, is_label, key_by, known, cells, labels, is_operator, operators, depth, parts, names}
+use Rattle.limits.specs.Uses.{Role, definition, listed, Use, made, In, use_at, is_literal, is_definition, is_listed, is_label, key_by, known, cells, labels, is_operator, operators, depth, parts, names}
 use Rattle.limits.specs.Rules.{name_limit, cell_limit, label_limit, operator_limit, depth_limit, list_limit, here, past, rest, seen, Used, Earlier, New, Rule, no_program, long_name, second_definition, other_kind, no_cell, no_label, many_operators, deep_parenthesis, deep_if, long_list}
 use Rattle.limits.specs.Refusals.{Check, among, unlike, differ, used_so, fault_at, checks}
-use Rattle.limits.proofs.Keys.{Way, holds, fails, way, clash, among_sound, among_complete, known_sound, known_complete}
+use Rattle.limits.proofs.Keys.{clash, among_sound, among_complete, known_sound, known_complete}
 use Rattle.limits.proofs.Lists.{earlier_seen, seen_earlier}
 use Rattle.limits.proofs.Checks.{Found}
 
@@ -26,30 +26,16 @@ used_complete : (test : Role → List ℕ → Bool) (o : Option Use) (r : Role) 
 used_complete test o r s e h = rw e h
 
 pub only_definition : (r : Role) → is_definition r ≡ true → r ≡ definition
-only_definition definition e = refl
-only_definition target e = absurd (false≢true e)
-only_definition listed e = absurd (false≢true e)
-only_definition variable_use e = absurd (false≢true e)
-only_definition number_use e = absurd (false≢true e)
+only_definition r e = grind arith
 
 only_listed : (r : Role) → is_listed r ≡ true → r ≡ listed
-only_listed definition e = absurd (false≢true e)
-only_listed target e = absurd (false≢true e)
-only_listed listed e = refl
-only_listed variable_use e = absurd (false≢true e)
-only_listed number_use e = absurd (false≢true e)
+only_listed r e = grind arith
 
 unlike_sound : (a b : Bool) → unlike a b ≡ true → a ≡ b → ⊥
-unlike_sound true true e q = false≢true e
-unlike_sound true false e q = false≢true (sym q)
-unlike_sound false true e q = false≢true q
-unlike_sound false false e q = false≢true e
+unlike_sound a b e q = grind arith
 
 unlike_complete : (a b : Bool) → (a ≡ b → ⊥) → unlike a b ≡ true
-unlike_complete true true h = absurd (h refl)
-unlike_complete true false h = refl
-unlike_complete false true h = refl
-unlike_complete false false h = absurd (h refl)
+unlike_complete a b h = grind arith
 
 module _ (w : Words) (ts : List Token) (k : ℕ) where
   abbrev before : List Token
@@ -67,13 +53,10 @@ module _ (w : Words) (ts : List Token) (k : ℕ) where
       clash (known_complete w (key_by w r s) (made q t) us (earlier_seen ts q t k x) h) (not-true (known w (key_by w r s) us) e)
 
   pub new_complete : (r : Role) (s : List ℕ) → New w ts k r s → not (known w (key_by w r s) us) ≡ true
-  new_complete r s h = go (way (known w (key_by w r s) us))
-    where
-      go : Way (known w (key_by w r s) us) → not (known w (key_by w r s) us) ≡ true
-      go (holds e) =
-          let x = known_sound w (key_by w r s) us e in
-          absurd (h x.0.role x.0.spelling (seen_earlier ts x.0.role x.0.spelling k x.1) x.2)
-      go (fails e) = not_from_false (known w (key_by w r s) us) e
+  new_complete r s h =
+      not_from_false (known w (key_by w r s) us) (false_from_ne_true (known w (key_by w r s) us) (λ e.
+      let x = known_sound w (key_by w r s) us e in
+      h x.0.role x.0.spelling (seen_earlier ts x.0.role x.0.spelling k x.1) x.2))
 
   -- 4
   abbrev long : Role → List ℕ → Bool

@@ -11,7 +11,8 @@ use Rattle.limits.specs.Symbols.{kind_of, Symbol, first_cell, cells_before, cell
 use Rattle.limits.proofs.Keys.{known_complete}
 use Rattle.limits.proofs.Lists.{seen_next}
 use Rattle.limits.proofs.Stands.{new_sound, new_complete}
-use Rattle.limits.proofs.Search.{At, at_rest, at_next, at_start, drop_some, used_within, all_seen}
+use Rattle.limits.proofs.Lists.{drop_some}
+use Rattle.limits.proofs.Search.{At, at_rest, at_next, at_start, used_within, all_seen}
 use Rattle.limits.proofs.Cells.{before_older, before_newest}
 
 module _ (w : Words) (ts : List Token) where

@@ -35,9 +35,7 @@ module _ (q : Rooms) where
   bounded_reduced p w h = bounded_reduce p w.marks w.cells w.temporaries w.words h
 
   bounded_off : (ms : List Mark) (cs : List ℕ) (n : ℕ) (ws : List Word) → Bounded q (work ms cs n ws) → Bounded q (left_off ms cs n ws)
-  bounded_off [] cs n ws h = (omega arith, omega arith, omega arith)
-  bounded_off (parenthesis ∷ ms) cs n ws h = h
-  bounded_off (pending o ∷ ms) cs n ws h = h
+  bounded_off ms cs n ws h = grind arith
 
   pub bounded_ended : (w : Work) → Bounded q w → Bounded q (ended w)
   bounded_ended w h = bounded_off w.marks w.cells w.temporaries w.words h

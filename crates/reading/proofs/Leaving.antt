@@ -36,9 +36,7 @@ pub entry_of : (s : State) (t : Token) (e : Entry) → move s t ≡ enter e → 
 entry_of s t e = go (choose (table s) t) (returning s)
   where
     go : (o : Option Entry) (r : Option Action) → decided o r ≡ enter e → o ≡ some e
-    go (some x) r h = cc
-    go none (some b) h = cc
-    go none none h = cc
+    go o r h = grind arith
 
 pub no_entry : (s : State) (t : Token) (b : Action) → move s t ≡ leave b → (choose (table s) t ≡ none) × (returning s ≡ some b)
 no_entry s t b = go (choose (table s) t) (returning s)

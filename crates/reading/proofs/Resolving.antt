@@ -1,8 +1,9 @@
 -- The words of a whole draft, coded and settled, are the code of its program.
-use Rattle.std.proofs.Common.{◌≡◌, ℕ, pred, ◌+◌, ◌*◌, ◌/◌, ◌%◌, ◌<◌, ◌≤◌, min, true, false, cond, eqb, List, [], ◌∷◌, map, reverse, length, sym, refl, ap, ◌∙◌, subst, arith}
+use Rattle.std.proofs.Common.{◌≡◌, ℕ, pred, ◌+◌, ◌*◌, ◌/◌, ◌%◌, ◌<◌, ◌≤◌, min, true, cond, eqb, List, [], ◌∷◌, map, reverse, length, sym, refl, ap, ◌∙◌, subst, arith}
 use mathlib.Core.List.{reverse_aux}
 use lib.ListN.{length-map}
-use Rattle.std.proofs.lemmas.Bool.Decides.{nat_tests}
+use mathlib.Mathlib.Data.List.Basic.{map-reverse_aux}
+use Rattle.std.proofs.lemmas.Bool.{true_from_ne_false}
 use Rattle.std.specs.List.{AllByRecursion as All}
 use Rattle.token.specs.Tokens.{Token, Placed}
 use Rattle.trees.specs.Trees.{Name, Program, commands}
@@ -10,18 +11,18 @@ use Rattle.arithmetic.specs.Words.{Words}
 use Rattle.grammar.specs.Grammar.{Parses}
 use Rattle.grammar.proofs.Theorems.{one_reading}
 use Rattle.runs.specs.declared.instruction.Instruction.{Instruction}
-use Rattle.runs.specs.declared.instruction.Instruction.TheVariants.{Bru, Brz, Brn, Brp, Ada, Sub, Mul, Div, Lda, Sta, Read, Convert, Newline, Stop}
+use Rattle.runs.specs.declared.instruction.Instruction.TheVariants.{Bru, Brz}
 use Rattle.runs.specs.Machine.{encode}
 use Rattle.runs.specs.Code.{program_size, address_of, instructions, code_of}
 use Rattle.runs.specs.Placed.{variables, literals, wholes, collected}
 use Rattle.runs.proofs.Basics.{all_among}
 use Rattle.runs.proofs.Sound.{Bound, codes_size, codes_bound}
 use Rattle.runs.proofs.Stands.{code_is_sound_lem}
-use Rattle.limits.specs.Uses.{Role, definition, target, listed, variable_use, number_use, Use, made, In, uses_before, uses, is_definition, is_label, Key, label_key, key_by, key, known}
+use Rattle.limits.specs.Uses.{Role, variable_use, number_use, Use, made, In, uses_before, uses, is_definition, is_label, Key, label_key, key_by, key, known}
 use Rattle.limits.specs.Rules.{code_limit, Clear, Met, tokens_of}
 use Rattle.limits.specs.Refusals.{among}
 use Rattle.limits.specs.Symbols.{first_cell, cells_before}
-use Rattle.limits.proofs.Keys.{Way, holds, fails, way, clash, known_sound, known_complete}
+use Rattle.limits.proofs.Keys.{clash, known_sound, known_complete}
 use Rattle.limits.proofs.Lists.{seen_earlier}
 use Rattle.limits.proofs.Search.{all_seen, somewhere_defined}
 use Rattle.limits.proofs.Cells.{variable_in, literal_in, few_cells}
@@ -58,32 +59,12 @@ taken_apart ss o a h =
     let y : (o * 4096 + a) % 4096 ≡ a = omega arith in
     ap (settled_word ss) v ∙ (λ i. settled_as ss (x i) (y i) (o * 4096 + a))
 
--- an instruction stays as it is
-left_alone : (ss : List Symbol) (o a : ℕ) → o ≤ 10 → a < 4096 → settled_word ss (packed o a) ≡ o * 4096 + a
-left_alone ss o a l h =
-    let p : eqb o 11 ≡ false = grind (arith, nat_tests) in
-    let q : eqb o 12 ≡ false = grind (arith, nat_tests) in
-    taken_apart ss o a h ∙ (λ i. cond (p i) (packed 0 (address_at ss a)) (cond (q i) (packed 1 (address_at ss a)) (o * 4096 + a)))
-
 -- any cell may be written
 abbrev pub Anywhere : ℕ → Type 0
 Anywhere c = Unit {0}
 
 fixed_word : (ss : List Symbol) (u : ℕ) → u ≤ 512 → (i : Instruction) → Bound 4096 u Anywhere i → settled_word ss (instruction_word i) ≡ encode i
-fixed_word ss u l (Bru a) h = left_alone ss 0 a (omega arith) h
-fixed_word ss u l (Brz a) h = left_alone ss 1 a (omega arith) h
-fixed_word ss u l (Brn a) h = left_alone ss 2 a (omega arith) h
-fixed_word ss u l (Brp a) h = left_alone ss 3 a (omega arith) h
-fixed_word ss u l (Ada a) h = left_alone ss 4 a (omega arith) (omega arith)
-fixed_word ss u l (Sub a) h = left_alone ss 5 a (omega arith) (omega arith)
-fixed_word ss u l (Mul a) h = left_alone ss 6 a (omega arith) (omega arith)
-fixed_word ss u l (Div a) h = left_alone ss 7 a (omega arith) (omega arith)
-fixed_word ss u l (Lda a) h = left_alone ss 8 a (omega arith) (omega arith)
-fixed_word ss u l (Sta a) h = left_alone ss 9 a (omega arith) (omega (arith, h.0))
-fixed_word ss u l Read h = refl
-fixed_word ss u l Convert h = refl
-fixed_word ss u l Newline h = refl
-fixed_word ss u l Stop h = refl
+fixed_word ss u l i h = grind arith
 
 -- a jump to a label gets the label's address, which is below 4,096
 jump_word : (ss : List Symbol) (n a : ℕ) → n < 4096 → a < 4096 → address_at ss n ≡ a → settled_word ss (packed jump_operation n) ≡ encode (Bru a)
@@ -131,29 +112,18 @@ bounded w ts p clear parses short =
 
 -- a use with a label's key is one of the label
 pub by_label : (w : Words) (r : Role) (s l : List ℕ) → key_by w r s ≡ label_key l → (is_label r ≡ true) × (s ≡ l)
-by_label w definition s l e = (refl, cc)
-by_label w target s l e = (refl, cc)
-by_label w listed s l e = (refl, cc)
-by_label w variable_use s l e = let z : ◌≡◌ {A = ℕ} 0 1 = cc in absurd (omega arith)
-by_label w number_use s l e = let z : ◌≡◌ {A = ℕ} 0 1 = cc in absurd (omega arith)
+by_label w r s l e = grind arith
 
 -- a label that is mentioned is among the definitions
 pub met_defined : (ts : List Token) → Met ts → (r : Role) (l : Name) → In (made r l) (uses ts) → is_label r ≡ true → among is_definition l (uses ts) ≡ true
-met_defined ts met r l i b = go (way (among is_definition l (uses ts)))
-  where
-    go : Way (among is_definition l (uses ts)) → among is_definition l (uses ts) ≡ true
-    go (holds e) = e
-    go (fails e) =
-        let k = seen_earlier ts r l (length ts) (rw (all_seen ts) i) in
-        absurd (met k.index (record { role = r; spelling = l; mentioned = k.used; label = b; nowhere = λ j u. clash (somewhere_defined ts l j u) e }))
-
-pub tokens_onto : (ts us : List Placed) → tokens_of (reverse_aux ts us) ≡ reverse_aux (tokens_of ts) (tokens_of us)
-tokens_onto [] us = refl
-tokens_onto (t ∷ ts) us = tokens_onto ts (t ∷ us)
+met_defined ts met r l i b =
+    let k = seen_earlier ts r l (length ts) (rw (all_seen ts) i) in
+    true_from_ne_false (among is_definition l (uses ts)) (λ e.
+    met k.index (record { role = r; spelling = l; mentioned = k.used; label = b; nowhere = λ j u. clash (somewhere_defined ts l j u) e }))
 
 -- the uses of all mentions are those of the tokens
 pub all_uses : (address : List Token → ℕ) (ts : List Placed) → uses_of (mentions_before address (reverse ts) []) ≡ uses (tokens_of ts)
-all_uses address ts = same_uses address (reverse ts) [] ∙ ap (λ z. uses_before z []) (tokens_onto ts [])
+all_uses address ts = same_uses address (reverse ts) [] ∙ ap (λ z. uses_before z []) (map-reverse_aux (λ (p : Placed). p.token) ts [])
 
 module _ (w : Words) (ts : List Placed) (address : List Token → ℕ) (t : Table) (d : Draft) (p : Program) (whole : Whole (layout w (tokens_of ts)) p d)
     (met : Met (tokens_of ts)) (short : here d ≤ code_limit) (held : Holds w t (mentions_before address (reverse ts) []))

@@ -1,6 +1,6 @@
 -- What is known of a symbol stays as it is, whatever tokens come after.
-use Rattle.std.proofs.Common.{◌≡◌, ◌+◌, true, cond, List, [], ◌∷◌, reverse, refl, ◌∙◌}
-use mathlib.Core.List.{reverse_aux}
+use Rattle.std.proofs.Common.{◌≡◌, ◌+◌, true, cond, List, [], ◌∷◌, refl, ◌∙◌}
+use mathlib.Core.List.{reverse_aux, reverse_aux-reverse_aux-nil}
 use mathlib.Core.Option.{Option, none, some}
 use Rattle.std.proofs.lemmas.Bool.{or_right}
 use Rattle.token.specs.Tokens.{Token}
@@ -25,11 +25,6 @@ one_more w k us (some u) h = record {
   same_cell = cell_stays w k u us h;
 }
 
--- the tokens in their order, turned, are newest first
-pub turned : {A : Type 0} (past rest : List A) → reverse (reverse_aux past rest) ≡ reverse_aux rest past
-turned [] rest = refl
-turned (t ∷ past) rest = turned past (t ∷ rest)
-
 all_more : (w : Words) (k : Key) (rest past : List Token) → known w k (uses_before past rest) ≡ true →
     Same w k (uses_before past rest) (uses_before (reverse_aux rest past) [])
 all_more w k [] past h = record { still = h; same_index = refl; same_cell = refl }
@@ -40,7 +35,7 @@ all_more w k (t ∷ rest) past h =
 
 -- after all tokens, of which `past` are the first, newest first
 pub after_all : (w : Words) (k : Key) (past rest : List Token) → known w k (uses_before past rest) ≡ true → Same w k (uses_before past rest) (uses (reverse_aux past rest))
-after_all w k past rest h = rw (turned past rest) (all_more w k rest past h)
+after_all w k past rest h = rw (reverse_aux-reverse_aux-nil past rest) (all_more w k rest past h)
 
 pub stays : Stays
 stays w past rest u h =

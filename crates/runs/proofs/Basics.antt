@@ -1,13 +1,11 @@
 -- Names, lists and words: what the proofs share.
 use Rattle.std.proofs.Common.{◌≡◌, ℕ, zero, suc, ◌+◌, ◌*◌, ◌≤◌, Bool, true, false, cond, eqb, List, [], ◌∷◌, ◌++◌, length, ℤ, pos, negsuc, Some, None, Decides, Option, refl, ap, subst, inl, inr, arith}
-use lib.Signed.{quot_z}
-use Rattle.std.proofs.lemmas.Bool.{and_parts, and_from, eqb-true, eq-eqb}
+use Rattle.std.proofs.lemmas.Bool.{and_parts, and_from, cond_both, eqb-true, eq-eqb}
 use Rattle.std.proofs.lemmas.Bool.Decides.{nat_tests, same_from_decides}
 use Rattle.std.proofs.lemmas.Int.{ints}
 use Rattle.std.specs.List.{AllByRecursion as All}
 use Rattle.trees.specs.Trees.{Name, Expr, variable, literal, binary}
 use Rattle.trees.specs.declared.operator.Operator.{Operator}
-use Rattle.trees.specs.declared.operator.Operator.TheVariants.{Plus as plus, Minus as minus, Times as times, Over as over}
 use Rattle.arithmetic.specs.Words.{Words, Word, Lawful, is_zero, difference, less}
 use Rattle.runs.specs.Names.{same, Store, put}
 use Rattle.runs.specs.Source.{decimal, apply, value, nth, picked, pick_cost}
@@ -21,8 +19,8 @@ same_self (a ∷ x) = and_from (eqb a a) (same x x) (eq-eqb a a refl) (same_self
 
 pub same_eq : (x y : Name) → same x y ≡ true → x ≡ y
 same_eq [] [] e = refl
-same_eq [] (b ∷ y) e = let z : ◌≡◌ {A = ℕ} 0 1 = cc in absurd (omega arith)
-same_eq (a ∷ x) [] e = let z : ◌≡◌ {A = ℕ} 0 1 = cc in absurd (omega arith)
+same_eq [] (b ∷ y) e = grind arith
+same_eq (a ∷ x) [] e = grind arith
 same_eq (a ∷ x) (b ∷ y) e =
     let p = and_parts (eqb a b) (same x y) e in
     let q : a ≡ b = eqb-true a b p.0 in
@@ -110,15 +108,8 @@ module _ (w : Words) (law : Lawful w) where
       let l = law.low.1 in let h = law.high.0 in
       law.same (pos 1) (omega (arith, ints), omega (arith, ints))
 
-  either_fixed : (b : Bool) (x y : ℤ) → Fixed x → Fixed y → Fixed (cond b x y)
-  either_fixed true x y p q = p
-  either_fixed false x y p q = q
-
   apply_fixed : (o : Operator) (a b : ℤ) → Fixed a → Fixed (apply w o a b)
-  apply_fixed plus a b h = fit_fixed _
-  apply_fixed minus a b h = fit_fixed _
-  apply_fixed times a b h = fit_fixed _
-  apply_fixed over a b h = either_fixed (is_zero b) a (w.fit (quot_z a b)) h (fit_fixed (quot_z a b))
+  apply_fixed o a b h = grind arith
 
   pub value_fixed : (v : Store) → ((x : Name) → Fixed (v x)) → (e : Expr) → Fixed (value w v e)
   value_fixed v h (variable x) = h x
@@ -127,7 +118,7 @@ module _ (w : Words) (law : Lawful w) where
 
   -- a variable is changed
   pub put_fixed : (v : Store) (x : Name) (z : ℤ) → ((y : Name) → Fixed (v y)) → Fixed z → (y : Name) → Fixed (put v x z y)
-  put_fixed v x z h q y = either_fixed (same x y) z (v y) q (h y)
+  put_fixed v x z h q y = cond_both (same x y) z (v y) Fixed (λ e. q) (λ e. h y)
 
   -- one taken once more
   pub less_more : (k : ℕ) (z : ℤ) → less w (suc k) z ≡ difference w (less w k z) (pos 1)
@@ -136,11 +127,11 @@ module _ (w : Words) (law : Lawful w) where
 
   decides_zero : (z : ℤ) → Decides (is_zero z) (z ≡ pos 0)
   decides_zero (pos n) = (λ e. ap pos (eqb-true n 0 e), λ e. let q : n ≡ 0 = cc in eq-eqb n 0 q)
-  decides_zero (negsuc n) = (λ e. let z : ◌≡◌ {A = ℕ} 0 1 = cc in absurd (omega arith), λ e. let z : ◌≡◌ {A = ℕ} 0 1 = cc in absurd (omega arith))
+  decides_zero (negsuc n) = (λ e. grind arith, λ e. grind arith)
 
   decides_number : (z : ℤ) (k : ℕ) → Decides (is_number z k) (z ≡ pos k)
   decides_number (pos n) k = (λ e. ap pos (eqb-true n k e), λ e. let q : n ≡ k = cc in eq-eqb n k q)
-  decides_number (negsuc n) k = (λ e. let z : ◌≡◌ {A = ℕ} 0 1 = cc in absurd (omega arith), λ e. let z : ◌≡◌ {A = ℕ} 0 1 = cc in absurd (omega arith))
+  decides_number (negsuc n) k = (λ e. grind arith, λ e. grind arith)
 
   -- the test at label k
   pub test_is : (k : ℕ) → k ≤ 63 → (z : ℤ) → Fixed z → is_zero (less w k z) ≡ is_number z k

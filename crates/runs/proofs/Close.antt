@@ -6,7 +6,7 @@ use Rattle.trees.specs.Trees.{Name, Command, labelled, empty, assign, go_to, go_
 use Rattle.arithmetic.specs.Words.{Words, Lawful}
 use Rattle.host.specs.Meaning.{Meaning, first, taken, fits, marked}
 use Rattle.runs.specs.Names.{Store}
-use Rattle.runs.specs.Events.{World, Mark, number, line_end, Status, Running, Stopped, NoLine, NoPaper, Corrupt, Close, stop, no_line, no_paper, status_of, Event, line, mark, close, Observation, nothing, observe, observed_from, observed, Tick, quiet, does, Timed, timed, every}
+use Rattle.runs.specs.Events.{World, Mark, number, line_end, Status, Running, Stopped, NoLine, NoPaper, Corrupt, Close, status_of, Event, line, mark, close, Observation, nothing, observe, observed_from, observed, Tick, quiet, does, Timed, timed, every}
 use Rattle.runs.specs.Source.{value, cost, compared, holds, command, end_of_then, Continuation, then_read, then_print, quiets, Stage, at, ended, making, storing, dropping, choosing, picked, pick_cost, perform, step, units, stage, start, events}
 use Rattle.runs.specs.Machine.{Instruction, State, fetch, counted, count, loaded}
 use Rattle.runs.specs.Machine.{step as machine_step}
@@ -48,9 +48,7 @@ open_quiets zero = open_none
 open_quiets (suc n) = open_quiet (open_quiets n)
 
 closed_not_running : (e : Close) → status_of e ≢ Running
-closed_not_running stop w = let z : ◌≡◌ {A = ℕ} 0 1 = cc in omega arith
-closed_not_running no_line w = let z : ◌≡◌ {A = ℕ} 0 1 = cc in omega arith
-closed_not_running no_paper w = let z : ◌≡◌ {A = ℕ} 0 1 = cc in omega arith
+closed_not_running e w = grind arith
 
 -- a step, or a stretch of the run, leaves it open, or shuts it
 data Outcome (ts : List Tick) (t : Stage) : Type 0 where
@@ -137,12 +135,6 @@ open_take (suc N) open_none = open_none
 open_take (suc N) (open_quiet o) = open_quiet (open_take N o)
 open_take (suc N) (open_line o) = open_line (open_take N o)
 open_take (suc N) (open_mark o) = open_mark (open_take N o)
-
-shut_some : {ts : List Tick} {e : Close} → Shut ts e → 1 ≤ length ts
-shut_some shut_last = omega arith
-shut_some (shut_quiet o) = omega arith
-shut_some (shut_line o) = omega arith
-shut_some (shut_mark o) = omega arith
 
 noted_every : (c : ℕ) (o : Observation) (ts : List Tick) → observed_from o (every (timed c ts)) ≡ all_noted o ts
 noted_every c o [] = refl
@@ -242,10 +234,10 @@ module _ (W : World) (law : Lawful W.words) (k : Layout) (p : Program) (placed :
       ((a : ℕ) → (machine_step W (code_of k p) k.used m).status ≢ Corrupt a) → counted t o ≡ 1
   one_counted Running (Some i) m e f r q = refl
   one_counted Running None m e f r q = absurd (q m.address (rw (e, f)))
-  one_counted Stopped o m e f r q = let z : ◌≡◌ {A = ℕ} 0 1 = cc in absurd (omega arith)
-  one_counted NoLine o m e f r q = let z : ◌≡◌ {A = ℕ} 0 1 = cc in absurd (omega arith)
-  one_counted NoPaper o m e f r q = let z : ◌≡◌ {A = ℕ} 0 1 = cc in absurd (omega arith)
-  one_counted (Corrupt a) o m e f r q = let z : ◌≡◌ {A = ℕ} 0 1 = cc in absurd (omega arith)
+  one_counted Stopped o m e f r q = grind arith
+  one_counted NoLine o m e f r q = grind arith
+  one_counted NoPaper o m e f r q = grind arith
+  one_counted (Corrupt a) o m e f r q = grind arith
 
   -- the instructions up to the close, and none after it
   up_to_close : (n c : ℕ) → Closing W p h n c → carried W k p s h c ≡ c

@@ -15,18 +15,10 @@ module _ (W : World) (code : List ℕ) (used : ℕ) where
 
   -- a closed machine stands still, and counts nothing
   still_by : (t : Status) (o : Option Instruction) (m : State) → t ≢ Running → move W t o m ≡ m
-  still_by Running o m e = absurd (e refl)
-  still_by Stopped o m e = refl
-  still_by NoLine o m e = refl
-  still_by NoPaper o m e = refl
-  still_by (Corrupt a) o m e = refl
+  still_by t o m e = grind lin
 
   none_by : (t : Status) (o : Option Instruction) → t ≢ Running → counted t o ≡ 0
-  none_by Running o e = absurd (e refl)
-  none_by Stopped o e = refl
-  none_by NoLine o e = refl
-  none_by NoPaper o e = refl
-  none_by (Corrupt a) o e = refl
+  none_by t o e = grind lin
 
   pub still_step : (m : State) → m.status ≢ Running → step W code used m ≡ m
   still_step m e = still_by m.status (fetch code used m.address) m e
@@ -45,11 +37,7 @@ module _ (W : World) (code : List ℕ) (used : ℕ) where
 
   -- whether a run is open
   pub open_or_closed : (t : Status) → (t ≡ Running) ⊎ (t ≢ Running)
-  open_or_closed Running = inl refl
-  open_or_closed Stopped = inr (λ e. let z : ◌≡◌ {A = ℕ} 0 1 = cc in omega lin)
-  open_or_closed NoLine = inr (λ e. let z : ◌≡◌ {A = ℕ} 0 1 = cc in omega lin)
-  open_or_closed NoPaper = inr (λ e. let z : ◌≡◌ {A = ℕ} 0 1 = cc in omega lin)
-  open_or_closed (Corrupt a) = inr (λ e. let z : ◌≡◌ {A = ℕ} 0 1 = cc in omega lin)
+  open_or_closed t = grind lin
 
   -- while it is open, each step counts
   pub all_counted : (n : ℕ) (m : State) → (run W code used n m).status ≡ Running → count W code used n m ≡ n
@@ -60,13 +48,13 @@ module _ (W : World) (code : List ℕ) (used : ℕ) where
       fetched Running (Some i) q f g = refl
       fetched Running None q f g =
           let s : (step W code used m).status ≡ Corrupt m.address = rw (g, f) in
-          let d : (step W code used m).status ≢ Running = λ w. let z : ◌≡◌ {A = ℕ} 0 1 = cc in omega lin in
+          let d : (step W code used m).status ≢ Running = λ w. grind lin in
           let z : ◌≡◌ {A = ℕ} 0 1 = cc (s, ap (λ (x : State). x.status) (still n (step W code used m) (still_step (step W code used m) d)), e) in
           absurd (omega lin)
-      fetched Stopped o q f g = let z : ◌≡◌ {A = ℕ} 0 1 = cc in absurd (omega lin)
-      fetched NoLine o q f g = let z : ◌≡◌ {A = ℕ} 0 1 = cc in absurd (omega lin)
-      fetched NoPaper o q f g = let z : ◌≡◌ {A = ℕ} 0 1 = cc in absurd (omega lin)
-      fetched (Corrupt a) o q f g = let z : ◌≡◌ {A = ℕ} 0 1 = cc in absurd (omega lin)
+      fetched Stopped o q f g = grind lin
+      fetched NoLine o q f g = grind lin
+      fetched NoPaper o q f g = grind lin
+      fetched (Corrupt a) o q f g = grind lin
 
       go : (m.status ≡ Running) ⊎ (m.status ≢ Running) → count W code used n (step W code used m) ≡ n → count W code used (suc n) m ≡ suc n
       go (inl q) i = let f = fetched m.status (fetch code used m.address) q refl refl in omega lin

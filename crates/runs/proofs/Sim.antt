@@ -3,7 +3,6 @@ use Rattle.std.proofs.Common.{◌≡◌, ℕ, suc, ◌+◌, ◌*◌, ◌<◌, �
 use Rattle.std.proofs.lemmas.List.{get_or-set_same, get_or-set_other}
 use Rattle.trees.specs.Trees.{Name, Expr, variable, literal, binary, Command}
 use Rattle.trees.specs.declared.operator.Operator.{Operator}
-use Rattle.trees.specs.declared.operator.Operator.TheVariants.{Plus as plus, Minus as minus, Times as times, Over as over}
 use Rattle.trees.specs.declared.relation.Relation.{Relation}
 use Rattle.trees.specs.declared.relation.Relation.TheVariants.{Greater as greater, Equal as equal, Less as lesser}
 use Rattle.arithmetic.specs.Words.{Words, Lawful, is_zero, difference, less}
@@ -110,10 +109,7 @@ module _ (W : World) (law : Lawful W.words) (k : Layout) (V : Name → Type 0) (
 
   -- an operator's instruction does what the operator says
   operates : (o : Operator) (c : ℕ) (m : State) → carry_out W (operating o c) m ≡ load (apply w o m.accumulator (held w m.cells c)) m
-  operates plus c m = refl
-  operates minus c m = refl
-  operates times c m = refl
-  operates over c m = refl
+  operates o c m = grind arith
 
   -- a relation's jump is taken where it holds
   turns : (r : Relation) (a b : ℕ) {z : ℤ} {s : List ℤ} {h : Meaning} {t : Bool} → holds r z ≡ t → carry_out W (branching r b) (at_work a z s h) ≡ at_work (cond t b (suc a)) z s h

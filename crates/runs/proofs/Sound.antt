@@ -1,18 +1,17 @@
 -- The words of a program's code: each jump leads into the code, each cell is in use, and each word means its instruction.
-use Rattle.std.proofs.Common.{◌≡◌, ℕ, zero, suc, ◌+◌, ◌*◌, ◌/◌, ◌%◌, ◌<◌, ◌≤◌, Bool, true, false, cond, eqb, ltb, List, [], ◌∷◌, map, length, get_or, Some, None, Option, sym, refl, ap, ◌∙◌, subst, arith, length-append}
+use Rattle.std.proofs.Common.{◌≡◌, ℕ, zero, suc, ◌+◌, ◌*◌, ◌<◌, ◌≤◌, Bool, true, cond, ltb, List, [], ◌∷◌, map, length, get_or, Some, None, refl, ap, ◌∙◌, subst, arith, length-append}
 use mathlib.Core.Option.{some}
 use lib.ListN.{get_elem?, length-map}
 use Rattle.std.proofs.ByRecursion.{All-append}
-use Rattle.std.proofs.lemmas.Bool.{lt-ltb, eqb-true}
+use Rattle.std.proofs.lemmas.Bool.{cond_both, lt-ltb}
+use Rattle.std.proofs.lemmas.Bool.Decides.{nat_tests}
 use Rattle.std.specs.List.{AllByRecursion as All}
 use Rattle.trees.specs.Trees.{Name, Expr, variable, literal, binary, Command, labelled, empty, assign, go_to, go_to_of, read, print, branch}
 use Rattle.trees.specs.declared.operator.Operator.{Operator}
-use Rattle.trees.specs.declared.operator.Operator.TheVariants.{Plus as plus, Minus as minus, Times as times, Over as over}
 use Rattle.trees.specs.declared.relation.Relation.{Relation}
-use Rattle.trees.specs.declared.relation.Relation.TheVariants.{Greater as greater, Equal as equal, Less as less}
 use Rattle.runs.specs.Names.{same}
 use Rattle.runs.specs.Source.{operators, cost}
-use Rattle.runs.specs.Machine.{Instruction, Bru, Brz, Brn, Brp, Ada, Sub, Mul, Div, Lda, Sta, Read, Convert, Newline, Stop, opcode, operand, encode, decode, called, inside, allowed, asked, fetch}
+use Rattle.runs.specs.Machine.{Instruction, Bru, Brz, Brn, Brp, Ada, Sub, Mul, Div, Lda, Sta, Read, Convert, Newline, Stop, operand, encode, decode, inside, allowed, asked, fetch}
 use Rattle.runs.specs.Code.{Layout, temp, first_temporary, operating, cell_of, operations, expression, values_size, size, then_at, else_at, locate, locate_all, branching, tests, reads, values, code, codes}
 use Rattle.runs.specs.Placed.{variables_in, literals_in, variables, literals, wholes, collected}
 use Rattle.runs.specs.Statements.{WordsDecode}
@@ -21,16 +20,16 @@ use Rattle.runs.proofs.Laid.{Few}
 
 -- a word's instruction
 pub round : (i : Instruction) → operand i < 4096 → decode (encode i) ≡ Some i
-round (Bru a) h = let q : (0 * 4096 + a) / 4096 ≡ 0 = omega arith in let r : (0 * 4096 + a) % 4096 ≡ a = omega arith in rw (q, r)
-round (Brz a) h = let q : (1 * 4096 + a) / 4096 ≡ 1 = omega arith in let r : (1 * 4096 + a) % 4096 ≡ a = omega arith in rw (q, r)
-round (Brn a) h = let q : (2 * 4096 + a) / 4096 ≡ 2 = omega arith in let r : (2 * 4096 + a) % 4096 ≡ a = omega arith in rw (q, r)
-round (Brp a) h = let q : (3 * 4096 + a) / 4096 ≡ 3 = omega arith in let r : (3 * 4096 + a) % 4096 ≡ a = omega arith in rw (q, r)
-round (Ada a) h = let q : (4 * 4096 + a) / 4096 ≡ 4 = omega arith in let r : (4 * 4096 + a) % 4096 ≡ a = omega arith in rw (q, r)
-round (Sub a) h = let q : (5 * 4096 + a) / 4096 ≡ 5 = omega arith in let r : (5 * 4096 + a) % 4096 ≡ a = omega arith in rw (q, r)
-round (Mul a) h = let q : (6 * 4096 + a) / 4096 ≡ 6 = omega arith in let r : (6 * 4096 + a) % 4096 ≡ a = omega arith in rw (q, r)
-round (Div a) h = let q : (7 * 4096 + a) / 4096 ≡ 7 = omega arith in let r : (7 * 4096 + a) % 4096 ≡ a = omega arith in rw (q, r)
-round (Lda a) h = let q : (8 * 4096 + a) / 4096 ≡ 8 = omega arith in let r : (8 * 4096 + a) % 4096 ≡ a = omega arith in rw (q, r)
-round (Sta a) h = let q : (9 * 4096 + a) / 4096 ≡ 9 = omega arith in let r : (9 * 4096 + a) % 4096 ≡ a = omega arith in rw (q, r)
+round (Bru a) h = grind arith
+round (Brz a) h = grind arith
+round (Brn a) h = grind arith
+round (Brp a) h = grind arith
+round (Ada a) h = grind arith
+round (Sub a) h = grind arith
+round (Mul a) h = grind arith
+round (Div a) h = grind arith
+round (Lda a) h = grind arith
+round (Sta a) h = grind arith
 round Read h = refl
 round Convert h = refl
 round Newline h = refl
@@ -54,70 +53,14 @@ Bound n u S Newline = Unit {0}
 Bound n u S Stop = Unit {0}
 
 bound_inside : (n u : ℕ) (S : ℕ → Type 0) (i : Instruction) → Bound n u S i → inside n u i ≡ true
-bound_inside n u S (Bru a) h = lt-ltb a n h
-bound_inside n u S (Brz a) h = lt-ltb a n h
-bound_inside n u S (Brn a) h = lt-ltb a n h
-bound_inside n u S (Brp a) h = lt-ltb a n h
-bound_inside n u S (Ada a) h = lt-ltb a u h
-bound_inside n u S (Sub a) h = lt-ltb a u h
-bound_inside n u S (Mul a) h = lt-ltb a u h
-bound_inside n u S (Div a) h = lt-ltb a u h
-bound_inside n u S (Lda a) h = lt-ltb a u h
-bound_inside n u S (Sta a) h = lt-ltb a u h.0
-bound_inside n u S Read h = refl
-bound_inside n u S Convert h = refl
-bound_inside n u S Newline h = refl
-bound_inside n u S Stop h = refl
+bound_inside n u S i h = grind arith
 
 bound_small : (n u : ℕ) (S : ℕ → Type 0) → n ≤ 4096 → u ≤ 4096 → (i : Instruction) → Bound n u S i → operand i < 4096
-bound_small n u S p q (Bru a) h = omega arith
-bound_small n u S p q (Brz a) h = omega arith
-bound_small n u S p q (Brn a) h = omega arith
-bound_small n u S p q (Brp a) h = omega arith
-bound_small n u S p q (Ada a) h = omega arith
-bound_small n u S p q (Sub a) h = omega arith
-bound_small n u S p q (Mul a) h = omega arith
-bound_small n u S p q (Div a) h = omega arith
-bound_small n u S p q (Lda a) h = omega arith
-bound_small n u S p q (Sta a) h = omega (arith, h.0)
-bound_small n u S p q Read h = omega arith
-bound_small n u S p q Convert h = omega arith
-bound_small n u S p q Newline h = omega arith
-bound_small n u S p q Stop h = omega arith
+bound_small n u S p q i h = grind arith
 
--- one test of a chain
-tested : (b : Bool) (x y z : Option Instruction) (P : Type 0) → cond b x y ≡ z → (b ≡ true → x ≡ z → P) → (b ≡ false → y ≡ z → P) → P
-tested true x y z P e f g = f refl e
-tested false x y z P e f g = g refl e
-
--- the operand of a word, and what its operation makes of it
-made : (n q : ℕ) (i j : Instruction) → n / 4096 ≡ q → opcode j ≡ q → operand j ≡ n % 4096 → Some j ≡ Some i → (encode i ≡ n) × (operand i < 4096)
-made n q i j e f g h =
-    let r : j ≡ i = cc in
-    let t : (encode j ≡ n) × (operand j < 4096) = omega arith in
-    subst (λ (x : Instruction). (encode x ≡ n) × (operand x < 4096)) r t
-
-never_none : (i : Instruction) (P : Type 0) → None ≡ Some i → P
-never_none i P e = let z : ◌≡◌ {A = ℕ} 0 1 = cc in absurd (omega arith)
-
+-- what a word's instruction makes of it
 unmade : (n : ℕ) (i : Instruction) → decode n ≡ Some i → (encode i ≡ n) × (operand i < 4096)
-unmade n i e =
-    tested (eqb (n / 4096) 0) (Some (Bru (n % 4096))) _ (Some i) ((encode i ≡ n) × (operand i < 4096)) e (λ b h. made n 0 i (Bru (n % 4096)) (eqb-true (n / 4096) 0 b) refl refl h) (λ b e0.
-    tested (eqb (n / 4096) 1) (Some (Brz (n % 4096))) _ (Some i) ((encode i ≡ n) × (operand i < 4096)) e0 (λ b h. made n 1 i (Brz (n % 4096)) (eqb-true (n / 4096) 1 b) refl refl h) (λ b e1.
-    tested (eqb (n / 4096) 2) (Some (Brn (n % 4096))) _ (Some i) ((encode i ≡ n) × (operand i < 4096)) e1 (λ b h. made n 2 i (Brn (n % 4096)) (eqb-true (n / 4096) 2 b) refl refl h) (λ b e2.
-    tested (eqb (n / 4096) 3) (Some (Brp (n % 4096))) _ (Some i) ((encode i ≡ n) × (operand i < 4096)) e2 (λ b h. made n 3 i (Brp (n % 4096)) (eqb-true (n / 4096) 3 b) refl refl h) (λ b e3.
-    tested (eqb (n / 4096) 4) (Some (Ada (n % 4096))) _ (Some i) ((encode i ≡ n) × (operand i < 4096)) e3 (λ b h. made n 4 i (Ada (n % 4096)) (eqb-true (n / 4096) 4 b) refl refl h) (λ b e4.
-    tested (eqb (n / 4096) 5) (Some (Sub (n % 4096))) _ (Some i) ((encode i ≡ n) × (operand i < 4096)) e4 (λ b h. made n 5 i (Sub (n % 4096)) (eqb-true (n / 4096) 5 b) refl refl h) (λ b e5.
-    tested (eqb (n / 4096) 6) (Some (Mul (n % 4096))) _ (Some i) ((encode i ≡ n) × (operand i < 4096)) e5 (λ b h. made n 6 i (Mul (n % 4096)) (eqb-true (n / 4096) 6 b) refl refl h) (λ b e6.
-    tested (eqb (n / 4096) 7) (Some (Div (n % 4096))) _ (Some i) ((encode i ≡ n) × (operand i < 4096)) e6 (λ b h. made n 7 i (Div (n % 4096)) (eqb-true (n / 4096) 7 b) refl refl h) (λ b e7.
-    tested (eqb (n / 4096) 8) (Some (Lda (n % 4096))) _ (Some i) ((encode i ≡ n) × (operand i < 4096)) e7 (λ b h. made n 8 i (Lda (n % 4096)) (eqb-true (n / 4096) 8 b) refl refl h) (λ b e8.
-    tested (eqb (n / 4096) 9) (Some (Sta (n % 4096))) _ (Some i) ((encode i ≡ n) × (operand i < 4096)) e8 (λ b h. made n 9 i (Sta (n % 4096)) (eqb-true (n / 4096) 9 b) refl refl h) (λ b e9.
-    tested (eqb (n / 4096) 10) (called (n % 4096)) _ (Some i) ((encode i ≡ n) × (operand i < 4096)) e9 (λ c e10.
-    tested (eqb (n % 4096) 0) (Some Read) _ (Some i) ((encode i ≡ n) × (operand i < 4096)) e10 (λ b h. made n 10 i Read (eqb-true (n / 4096) 10 c) refl (sym (eqb-true (n % 4096) 0 b)) h) (λ b f0.
-    tested (eqb (n % 4096) 1) (Some Convert) _ (Some i) ((encode i ≡ n) × (operand i < 4096)) f0 (λ b h. made n 10 i Convert (eqb-true (n / 4096) 10 c) refl (sym (eqb-true (n % 4096) 1 b)) h) (λ b f1.
-    tested (eqb (n % 4096) 2) (Some Newline) _ (Some i) ((encode i ≡ n) × (operand i < 4096)) f1 (λ b h. made n 10 i Newline (eqb-true (n / 4096) 10 c) refl (sym (eqb-true (n % 4096) 2 b)) h) (λ b f2.
-    tested (eqb (n % 4096) 3) (Some Stop) _ (Some i) ((encode i ≡ n) × (operand i < 4096)) f2 (λ b h. made n 10 i Stop (eqb-true (n / 4096) 10 c) refl (sym (eqb-true (n % 4096) 3 b)) h) (λ b f3.
-    never_none i ((encode i ≡ n) × (operand i < 4096)) f3))))) (λ b h. never_none i ((encode i ≡ n) × (operand i < 4096)) h)))))))))))
+unmade n i e = grind (arith, nat_tests)
 
 pub words_decode_lem : WordsDecode
 words_decode_lem i n = (unmade n i, λ e. subst (λ (x : ℕ). decode x ≡ Some i) e.0 (round i e.1))
@@ -178,12 +121,8 @@ end_above [] a = omega arith
 end_above (c ∷ cs) a = let i = end_above cs (a + size c) in omega arith
 
 -- an address within
-either_within : (b : Bool) (x y z : ℕ) → x ≤ z → y ≤ z → cond b x y ≤ z
-either_within true x y z p q = p
-either_within false x y z p q = q
-
 locate_within : (l : Name) (c : Command) (a m z : ℕ) → a + size c ≤ z → m ≤ z → locate l a c m ≤ z
-locate_within l (labelled j c) a m z h q = either_within (same l j) a (locate l a c m) z (omega arith) (locate_within l c a m z h q)
+locate_within l (labelled j c) a m z h q = cond_both (same l j) a (locate l a c m) (λ x. x ≤ z) (λ e. omega arith) (λ e. locate_within l c a m z h q)
 locate_within l empty a m z h q = q
 locate_within l (assign x e) a m z h q = q
 locate_within l (go_to j) a m z h q = q
@@ -213,20 +152,13 @@ module _ (k : Layout) (to : Name → ℕ) (n : ℕ) (fixed : 66 ≤ k.used) (jum
   B = Bound n k.used S
 
   cell_bound : (e : Expr) (t : ℕ) → t + operators e ≤ 66 → All V (variables_in e) → All L (literals_in e) → cell_of k t e < k.used
-  cell_bound (variable x) t h v m = v.0.0
-  cell_bound (literal ds) t h v m = m.0
-  cell_bound (binary o l r) t h v m = omega arith
+  cell_bound e t h v m = grind arith
 
   operating_bound : (o : Operator) (a : ℕ) → a < k.used → B (operating o a)
-  operating_bound plus a h = h
-  operating_bound minus a h = h
-  operating_bound times a h = h
-  operating_bound over a h = h
+  operating_bound o a h = grind arith
 
   branching_bound : (r : Relation) (a : ℕ) → a < n → B (branching r a)
-  branching_bound greater a h = h
-  branching_bound equal a h = h
-  branching_bound less a h = h
+  branching_bound r a h = grind arith
 
   ops_bound : (e : Expr) (t : ℕ) → 2 ≤ t → t + operators e ≤ 66 → All V (variables_in e) → All L (literals_in e) → All B (operations k t e)
   ops_bound (variable x) t g h v m = tt
@@ -297,12 +229,12 @@ module _ (k : Layout) (to : Name → ℕ) (n : ℕ) (fixed : 66 ≤ k.used) (jum
 -- Fetching.
 
 at_word : (text : List Instruction) (a : ℕ) (i : Instruction) → get_elem? text a ≡ some i → (a < length text) × (get_or (map encode text) a 0 ≡ encode i)
-at_word [] a i e = let z : ◌≡◌ {A = ℕ} 0 1 = cc in absurd (omega arith)
-at_word (j ∷ text) zero i e = let q : j ≡ i = cc in (omega arith, ap encode q)
-at_word (j ∷ text) (suc a) i e = let r = at_word text a i e in (omega (arith, r.0), r.1)
+at_word [] a i e = grind arith
+at_word (j ∷ text) zero i e = grind arith
+at_word (j ∷ text) (suc a) i e = grind (arith, at_word text a i e)
 
 pub at_all : (P : Instruction → Type 0) (text : List Instruction) (a : ℕ) (i : Instruction) → get_elem? text a ≡ some i → All P text → P i
-at_all P [] a i e h = let z : ◌≡◌ {A = ℕ} 0 1 = cc in absurd (omega arith)
+at_all P [] a i e h = grind arith
 at_all P (j ∷ text) zero i e h = let q : j ≡ i = cc in subst P q h.0
 at_all P (j ∷ text) (suc a) i e h = at_all P text a i e h.1
 

@@ -1,13 +1,11 @@
 -- A program's code stands where it should, and no run of it becomes corrupt.
-use Rattle.std.proofs.Common.{◌≡◌, ℕ, zero, suc, ◌+◌, ◌<◌, ◌≤◌, Bool, true, false, cond, ◌≢◌, ◌⊎◌, List, [], ◌∷◌, length, get_or, set, ℤ, pos, Some, None, Option, sym, refl, ap, ◌∙◌, subst, inl, inr, arith, length-set}
+use Rattle.std.proofs.Common.{◌≡◌, ℕ, zero, suc, ◌+◌, ◌<◌, ◌≤◌, Bool, true, false, ◌≢◌, ◌⊎◌, List, [], ◌∷◌, length, get_or, set, ℤ, pos, Some, None, Option, sym, refl, ap, ◌∙◌, subst, inl, inr, arith, length-set}
 use mathlib.Core.Option.{some}
 use native.Mathlib.Decide.{dec_le}
-use lib.Signed.{lt_z}
 use lib.ListN.{get_elem?, length-map}
 use Rattle.std.proofs.lemmas.List.{get_or-set_other}
 use Rattle.std.specs.List.{AllByRecursion as All}
 use Rattle.trees.specs.Trees.{Name, Command, Program, commands}
-use Rattle.arithmetic.specs.Words.{is_zero}
 use Rattle.host.specs.Meaning.{Meaning, first, fits}
 use Rattle.runs.specs.Events.{World, Mark, number, line_end, Status, Running, Stopped, NoLine, NoPaper, Corrupt}
 use Rattle.runs.specs.Machine.{Instruction, Bru, Brz, Brn, Brp, Ada, Sub, Mul, Div, Lda, Sta, Read, Convert, Newline, Stop, encode, fetch, State, take_line, make_mark, carry_out, move, step, run, loaded}
@@ -68,66 +66,14 @@ Fine NoLine = Unit {0}
 Fine NoPaper = Unit {0}
 Fine (Corrupt a) = ⊥
 
-abbrev is_stop : Instruction → Bool
-is_stop (Bru a) = false
-is_stop (Brz a) = false
-is_stop (Brn a) = false
-is_stop (Brp a) = false
-is_stop (Ada a) = false
-is_stop (Sub a) = false
-is_stop (Mul a) = false
-is_stop (Div a) = false
-is_stop (Lda a) = false
-is_stop (Sta a) = false
-is_stop Read = false
-is_stop Convert = false
-is_stop Newline = false
-is_stop Stop = true
-
 module _ (W : World) (u E : ℕ) (S : ℕ → Type 0) where
   -- not corrupt, and at an address up to END's
   record Safe (m : State) : Type 0 where
     fine : Fine m.status
     within : m.address ≤ E
 
-  before : (i : Instruction) (a : ℕ) → is_stop i ≡ false → (a < E) ⊎ (i ≡ Stop) → a < E
-  before i a s (inl l) = l
-  before i a s (inr e) = let z : ◌≡◌ {A = ℕ} 0 1 = cc (sym s ∙ ap is_stop e) in absurd (omega arith)
-
-  jumped : (b : Bool) (x y : ℕ) → x ≤ E → y ≤ E → cond b x y ≤ E
-  jumped true x y p q = p
-  jumped false x y p q = q
-
-  safe_take : (o : Option ℤ) (m : State) → m.address < E → Fine m.status → Safe (take_line W.words o m)
-  safe_take None m l f = record { fine = tt; within = omega arith }
-  safe_take (Some z) m l f = record { fine = f; within = l }
-
-  safe_mark : (b : Bool) (g : ℕ) (k : Mark) (m : State) → m.address < E → Fine m.status → Safe (make_mark b g k m)
-  safe_mark true g k m l f = record { fine = f; within = l }
-  safe_mark false g k m l f = record { fine = tt; within = omega arith }
-
-  safe_do : (i : Instruction) (m : State) → Bound (suc E) u S i → (m.address < E) ⊎ (i ≡ Stop) → m.address ≤ E → Fine m.status → Safe (carry_out W i m)
-  safe_do (Bru a) m b o l f = record { fine = f; within = omega arith }
-  safe_do (Brz a) m b o l f = record { fine = f; within = jumped (is_zero m.accumulator) a (suc m.address) (omega arith) (before (Brz a) m.address refl o) }
-  safe_do (Brn a) m b o l f = record { fine = f; within = jumped (lt_z m.accumulator (pos 0)) a (suc m.address) (omega arith) (before (Brn a) m.address refl o) }
-  safe_do (Brp a) m b o l f = record { fine = f; within = jumped (lt_z (pos 0) m.accumulator) a (suc m.address) (omega arith) (before (Brp a) m.address refl o) }
-  safe_do (Ada a) m b o l f = record { fine = f; within = before (Ada a) m.address refl o }
-  safe_do (Sub a) m b o l f = record { fine = f; within = before (Sub a) m.address refl o }
-  safe_do (Mul a) m b o l f = record { fine = f; within = before (Mul a) m.address refl o }
-  safe_do (Div a) m b o l f = record { fine = f; within = before (Div a) m.address refl o }
-  safe_do (Lda a) m b o l f = record { fine = f; within = before (Lda a) m.address refl o }
-  safe_do (Sta a) m b o l f = record { fine = f; within = before (Sta a) m.address refl o }
-  safe_do Read m b o l f = safe_take (first m.host.lines) m (before Read m.address refl o) f
-  safe_do Convert m b o l f = safe_mark (fits (W.weight (number m.accumulator)) m.host) (W.weight (number m.accumulator)) (number m.accumulator) m (before Convert m.address refl o) f
-  safe_do Newline m b o l f = safe_mark (fits (W.weight line_end) m.host) (W.weight line_end) line_end m (before Newline m.address refl o) f
-  safe_do Stop m b o l f = record { fine = tt; within = l }
-
   safe_move : (t : Status) (i : Instruction) (m : State) → m.status ≡ t → Bound (suc E) u S i → (m.address < E) ⊎ (i ≡ Stop) → Safe m → Safe (move W t (Some i) m)
-  safe_move Running i m e b o s = safe_do i m b o s.within s.fine
-  safe_move Stopped i m e b o s = s
-  safe_move NoLine i m e b o s = s
-  safe_move NoPaper i m e b o s = s
-  safe_move (Corrupt a) i m e b o s = s
+  safe_move t i m e b o s = grind arith
 
 module _ (k : Layout) (p : Program) (placed : Placed k p) where
   abbrev end : ℕ

@@ -1,5 +1,5 @@
 -- A sample meets the premises of the theorems.
-use Rattle.std.proofs.Common.{◌≡◌, ℕ, ◌<◌, ◌≤◌, ◌≢◌, List, [], ◌∷◌, get_or, pos, sym, refl, ap, ◌∙◌, subst, inl, inr, arith}
+use Rattle.std.proofs.Common.{◌≡◌, ℕ, ◌<◌, ◌≤◌, ◌≢◌, List, [], ◌∷◌, get_or, pos, sym, refl, ◌∙◌, arith}
 use Rattle.std.proofs.lemmas.Int.{ints}
 use Rattle.trees.specs.Trees.{Name, Expr, commands}
 use Rattle.arithmetic.specs.Words.{Words, Lawful}
@@ -8,22 +8,14 @@ use Rattle.runs.specs.Placed.{Among, wholes, collected, Literal, Placed, Ready}
 use Rattle.runs.specs.Samples.{Q, layout, cells, thrice}
 
 only_q : (x : Name) → Among x (Q ∷ Q ∷ Q ∷ []) → x ≡ Q
-only_q x (inl e) = e
-only_q x (inr (inl e)) = e
-only_q x (inr (inr (inl e))) = e
-only_q x (inr (inr (inr e))) = absurd e
+only_q x h = grind arith
 
 -- what holds of 9 and of 3 holds of each number of it
 each_number : (P : List ℕ → Type 0) → P (57 ∷ []) → P (51 ∷ []) → (ds : List ℕ) → Literal thrice ds → P ds
-each_number P a b ds (inl e) = subst P (sym e) a
-each_number P a b ds (inr (inl e)) = subst P (sym e) b
-each_number P a b ds (inr (inr e)) = absurd e
+each_number P a b ds h = grind arith
 
 few : (e : Expr) → Among e (collected wholes (commands thrice)) → operators e ≤ 64
-few e (inl q) = let r = ap operators q in omega arith
-few e (inr (inl q)) = let r = ap operators q in omega arith
-few e (inr (inr (inl q))) = let r = ap operators q in omega arith
-few e (inr (inr (inr q))) = absurd q
+few e h = grind arith
 
 pub thrice_placed : Placed layout thrice
 thrice_placed = record {

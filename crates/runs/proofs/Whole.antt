@@ -1,7 +1,8 @@
 -- The whole run: what is seen of n machine steps is what the source's events of running cost up to n add up to.
-use Rattle.std.proofs.Common.{◌≡◌, ℕ, zero, suc, ◌+◌, ◌-◌, ◌≤◌, Bool, true, false, cond, leb, ◌⊎◌, List, [], ◌∷◌, ◌++◌, length, take, ℤ, pos, negsuc, Some, None, Option, sym, refl, ap, ◌∙◌, subst, inl, inr, append_assoc, append-nil, suc-add, zero-add, arith, length-append}
+use Rattle.std.proofs.Common.{◌≡◌, ℕ, zero, suc, ◌+◌, ◌-◌, ◌≤◌, Bool, true, false, cond, leb, ◌⊎◌, List, [], ◌∷◌, ◌++◌, length, take, ℤ, Some, None, Option, sym, refl, ap, ◌∙◌, subst, inl, inr, append_assoc, append-nil, suc-add, zero-add, arith, length-append}
 use lib.ListN.{length-replicate}
 use Rattle.std.proofs.lemmas.Bool.Decides.{nat_tests}
+use lib.Seq.{take-nil}
 use Rattle.trees.specs.Trees.{Name, Command, labelled, empty, assign, go_to, go_to_of, read, print, branch, Program, commands}
 use Rattle.arithmetic.specs.Words.{Words, Lawful}
 use Rattle.host.specs.Meaning.{Meaning, first, taken, fits, marked}
@@ -62,9 +63,7 @@ costly_choosing true j c d r v h = record { some = simp (length-append, length-r
 costly_choosing false j c d r v h = record { some = simp (length-append, length-replicate) (omega arith) }
 
 costly_pick : (z : ℤ) (n : ℕ) (o : Option Name) → 1 ≤ pick_cost z (suc n) o
-costly_pick (pos k) n (Some l) = omega arith
-costly_pick (pos k) n None = omega arith
-costly_pick (negsuc k) n o = omega arith
+costly_pick z n o = grind arith
 
 module _ (W : World) (p : List Command) where
   -- the source run over n and then d steps
@@ -136,10 +135,6 @@ module _ (W : World) (p : List Command) where
     at_rest : {m : State} → Matches W law k V L apart code to ended m → machine_step W code k.used m ≡ m
     at_rest (rests e) = e
 
-    none_taken : (N : ℕ) → take {A = Tick} N [] ≡ []
-    none_taken zero = refl
-    none_taken (suc N) = refl
-
     -- what is left of the way after the first step
     onward : (M N n : ℕ) (s : Stage) → Far N (suc n) s → N ≡ length (step W p s).units + M → Far M n (step W p s).next
     onward M N n s (inl l) q = let o = simp length-append at l in inl (omega arith)
@@ -149,7 +144,7 @@ module _ (W : World) (p : List Command) where
         Follows W h (all_noted o (take N (units W p n s))) (run W code k.used N m)
     agrees zero zero o c f (inl l) = f
     agrees zero (suc N) o c f (inl l) = absurd (omega arith)
-    agrees zero N {m = m} o c f (inr e) = rw (still W code k.used N m (at_rest (rw e at c)), none_taken N) f
+    agrees zero N {m = m} o c f (inr e) = rw (still W code k.used N m (at_rest (rw e at c)), take-nil {A = Tick} N) f
     agrees (suc n) N {s = s} o c f g =
         let D = does_step W law k V L apart code to p jumps c in
         notes W code k.used h o D.goes f (units W p n (step W p s).next) N (λ M q l F. agrees n M q D.fits_to F (onward M N n s g l))

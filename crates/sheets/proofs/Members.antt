@@ -1,5 +1,5 @@
 -- What the tree of a program has, as the limits say it and as runs say it.
-use Rattle.std.proofs.Common.{◌≡◌, ℕ, suc, ◌+◌, ◌≤◌, ◌⊎◌, List, [], ◌∷◌, ◌++◌, sym, refl, ap, ◌∙◌, subst, inl, inr, append_assoc, arith}
+use Rattle.std.proofs.Common.{◌≡◌, ℕ, suc, ◌+◌, ◌≤◌, ◌⊎◌, List, [], ◌∷◌, ◌++◌, sym, refl, ap, ◌∙◌, subst, inl, inr, append_assoc, append-nil, arith}
 use Rattle.token.specs.Numbers as text
 use Rattle.token.proofs.Decimals.{decimal_push}
 use Rattle.trees.specs.Trees.{Name, Expr, variable, literal, binary, Command, labelled, empty, assign, go_to, go_to_of, read, print, branch}
@@ -10,11 +10,7 @@ use Rattle.runs.specs.Placed.{Among, collected, variables_in, literals_in, varia
 
 -- the number that digits write is the same for tokens and for runs
 decimal_on : (bs cs : List ℕ) → decimal_from (text.decimal bs) cs ≡ text.decimal (bs ++ cs)
-decimal_on bs [] = ap text.decimal (append_none bs)
-  where
-    append_none : (xs : List ℕ) → xs ≡ xs ++ []
-    append_none [] = refl
-    append_none (x ∷ xs) = ap (λ (ys : List ℕ). x ∷ ys) (append_none xs)
+decimal_on bs [] = ap text.decimal (sym (append-nil bs))
 decimal_on bs (c ∷ cs) =
     ap (λ (n : ℕ). decimal_from n cs) (sym (decimal_push bs c)) ∙ decimal_on (bs ++ (c ∷ [])) cs ∙ ap text.decimal (append_assoc bs (c ∷ []) cs)
 

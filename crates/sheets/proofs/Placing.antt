@@ -1,7 +1,8 @@
 -- What a load of an accepted text leaves.
-use Rattle.std.proofs.Common.{◌≡◌, ℕ, zero, suc, ◌+◌, ◌*◌, ◌<◌, ◌≤◌, Bool, true, cond, ltb, ◌⊎◌, List, [], ◌∷◌, ◌++◌, length, get_or, ℤ, pos, Some, None, Option, sym, refl, ap, ◌∙◌, subst, inl, inr, append-nil, le_of_suc-le-suc, not-suc-le-zero, arith, length-append}
+use Rattle.std.proofs.Common.{◌≡◌, ℕ, ◌+◌, ◌*◌, ◌<◌, ◌≤◌, Bool, true, cond, ltb, ◌⊎◌, List, [], ◌++◌, length, get_or, ℤ, pos, Some, None, Option, sym, refl, ap, ◌∙◌, subst, inl, inr, append-nil, arith, length-append}
 use lib.ListN.{get_or-append}
 use Rattle.std.proofs.lemmas.Bool.{cases_lt, lt-ltb}
+use Rattle.std.proofs.lemmas.List.{get_or_past}
 use Rattle.token.specs.Tokens.{Token}
 use Rattle.token.specs.Lexis.{tokens}
 use Rattle.trees.specs.Trees.{Name, Program, commands}
@@ -28,20 +29,7 @@ use Rattle.sheets.proofs.Values as value
 -- words of 16 bits
 
 low_opcode : (i : Instruction) → opcode i ≤ 10
-low_opcode (Bru a) = omega arith
-low_opcode (Brz a) = omega arith
-low_opcode (Brn a) = omega arith
-low_opcode (Brp a) = omega arith
-low_opcode (Ada a) = omega arith
-low_opcode (Sub a) = omega arith
-low_opcode (Mul a) = omega arith
-low_opcode (Div a) = omega arith
-low_opcode (Lda a) = omega arith
-low_opcode (Sta a) = omega arith
-low_opcode Read = omega arith
-low_opcode Convert = omega arith
-low_opcode Newline = omega arith
-low_opcode Stop = omega arith
+low_opcode i = grind arith
 
 short_word : (i : Instruction) (n : ℕ) → decode n ≡ Some i → n < 65536
 short_word i n e =
@@ -52,13 +40,8 @@ short_word i n e =
     omega (arith, a, b, c)
 
 was_asked : (size used : ℕ) (o : Option Instruction) (i : Instruction) → allowed size used o ≡ Some i → (j : Instruction) × (o ≡ Some j)
-was_asked size used None i e = let z : ◌≡◌ {A = ℕ} 0 1 = cc in absurd (omega arith)
+was_asked size used None i e = grind arith
 was_asked size used (Some j) i e = (j, refl)
-
-get_d_past : (ws : List ℕ) (a : ℕ) → length ws ≤ a → get_or ws a 0 ≡ 0
-get_d_past [] a h = refl
-get_d_past (x ∷ ws) zero h = absurd (not-suc-le-zero h)
-get_d_past (x ∷ ws) (suc a) h = get_d_past ws a (le_of_suc-le-suc h)
 
 fetched_word : (ws : List ℕ) (used a : ℕ) (i : Instruction) → a < length ws → fetch ws used a ≡ Some i → get_or ws a 0 < 65536
 fetched_word ws used a i l e =
@@ -73,7 +56,7 @@ short_words k p pl a = go (cases_lt a (length (code_of k p)))
   where
     go : (a < length (code_of k p)) ⊎ (length (code_of k p) ≤ a) → get_or (code_of k p) a 0 < 65536
     go (inl l) = let f = code_is_sound_lem.words k p pl a l in fetched_word (code_of k p) k.used a f.0 l f.1
-    go (inr g) = let e = get_d_past (code_of k p) a g in omega (arith, e)
+    go (inr g) = let e = get_or_past (code_of k p) a 0 g in omega (arith, e)
 
 module _ (w : Words) (ts : List Token) (p : Program) (clear : Clear w ts) (parses : Parses ts p) where
   variable_there : (x : Name) → Variable p x → In (made variable_use x) (uses ts)

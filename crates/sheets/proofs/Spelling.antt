@@ -1,5 +1,7 @@
 -- Each symbol of an accepted text points to bytes of the text, and leads to what they name.
 use Rattle.std.proofs.Common.{◌≡◌, ℕ, zero, suc, ◌+◌, ◌<◌, ◌≤◌, cond, List, [], ◌∷◌, ◌++◌, length, take, drop, sym, refl, ap, ◌∙◌, subst, append_assoc, arith, length-append}
+use lib.Seq.{take-append_seam, drop-append_seam}
+use Rattle.std.proofs.lemmas.List.{drop-map}
 use mathlib.Core.Option.{some, some-injective, none-ne-some}
 use Rattle.token.specs.Tokens.{Token, name, number, keyword, sign, other, Placed}
 use Rattle.token.specs.Lexis.{tokens}
@@ -25,21 +27,13 @@ record Spelled (text : List ℕ) (at : ℕ) (bytes : List ℕ) : Type 0 where
   within : at + length bytes ≤ length text
   same : take (length bytes) (drop at text) ≡ bytes
 
-drop_front : (xs ys : List ℕ) → drop (length xs) (xs ++ ys) ≡ ys
-drop_front [] ys = refl
-drop_front (x ∷ xs) ys = drop_front xs ys
-
-take_front : (xs ys : List ℕ) → take (length xs) (xs ++ ys) ≡ xs
-take_front [] ys = refl
-take_front (x ∷ xs) ys = ap (λ (zs : List ℕ). x ∷ zs) (take_front xs ys)
-
 spelled_here : (front bytes after : List ℕ) (at : ℕ) → length front ≡ at → Spelled (front ++ (bytes ++ after)) at bytes
 spelled_here front bytes after at e = record {
   within =
       let a = length-append front (bytes ++ after) in
       let b = length-append bytes after in
       omega (arith, a, b, e);
-  same = ap (λ (n : ℕ). take (length bytes) (drop n (front ++ (bytes ++ after)))) (sym e) ∙ ap (take (length bytes)) (drop_front front (bytes ++ after)) ∙ take_front bytes after;
+  same = ap (λ (n : ℕ). take (length bytes) (drop n (front ++ (bytes ++ after)))) (sym e) ∙ ap (take (length bytes)) (drop-append_seam front (bytes ++ after)) ∙ take-append_seam bytes after;
 }
 
 further : (front bytes : List ℕ) (at : ℕ) → length front ≡ at → length (front ++ bytes) ≡ at + length bytes
@@ -73,18 +67,13 @@ use_spelled before (keyword k) after r s e = absurd (none-ne-some (made r s) e)
 use_spelled before (sign g) after r s e = absurd (none-ne-some (made r s) e)
 use_spelled before (other b) after r s e = absurd (none-ne-some (made r s) e)
 
-drop_tokens : (k : ℕ) (ts : List Placed) → drop k (tokens_of ts) ≡ tokens_of (drop k ts)
-drop_tokens zero ts = refl
-drop_tokens (suc k) [] = refl
-drop_tokens (suc k) (p ∷ ps) = drop_tokens k ps
-
 drop_in : (k : ℕ) (ts : List Placed) (q : Placed) (qs : List Placed) → drop k ts ≡ q ∷ qs → In q ts
 drop_in zero ts q qs e = subst (In q) (sym e) at_head
 drop_in (suc k) [] q qs e = subst (In q) (sym e) at_head
 drop_in (suc k) (p ∷ ps) q qs e = in_tail (drop_in k ps q qs e)
 
 used_spelled : (text : List ℕ) (k : ℕ) (r : Role) (s : List ℕ) → Used (plain_tokens text) k r s → Spelled text (place 0 (drop k (tokens text))) s
-used_spelled text k r s u = go (drop k (tokens text)) refl (ap (use_at (past (plain_tokens text) k)) (sym (drop_tokens k (tokens text))) ∙ u.is_used)
+used_spelled text k r s u = go (drop k (tokens text)) refl (ap (use_at (past (plain_tokens text) k)) (sym (drop-map (λ (p : Placed). p.token) k (tokens text))) ∙ u.is_used)
   where
     go : (l : List Placed) → drop k (tokens text) ≡ l → use_at (past (plain_tokens text) k) (tokens_of l) ≡ some (made r s) → Spelled text (place 0 l) s
     go [] e f = absurd (none-ne-some (made r s) f)

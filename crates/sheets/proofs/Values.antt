@@ -1,43 +1,27 @@
 -- What the cells hold at first: each variable's 0, each number's its word.
-use Rattle.std.proofs.Common.{◌≡◌, ℕ, ◌+◌, ◌<◌, Bool, true, false, cond, not, ◌&&◌, ◌⊎◌, List, [], ◌∷◌, ◌++◌, length, get_or, ℤ, pos, sym, refl, ap, ◌∙◌, subst, inl, inr, arith, length-append, get_or-append-add}
+use Rattle.std.proofs.Common.{◌≡◌, ℕ, ◌+◌, ◌<◌, Bool, true, false, cond, not, ◌&&◌, List, [], ◌∷◌, ◌++◌, length, get_or, ℤ, pos, sym, refl, ap, ◌∙◌, subst, arith, length-append, get_or-append-add}
 use lib.ListN.{get_or-append}
-use Rattle.std.proofs.lemmas.Bool.{false≢true, or_cases}
+use Rattle.std.proofs.lemmas.Bool.{false≢true}
 use Rattle.std.proofs.lemmas.List.{length_push, get_or_push}
 use Rattle.token.specs.Tokens.{Token}
 use Rattle.token.specs.Numbers.{word}
 use Rattle.trees.specs.Trees.{Name}
 use Rattle.arithmetic.specs.Words.{Words}
-use Rattle.limits.specs.Uses.{Role, definition, target, listed, variable_use, number_use, Use, made, In, uses, is_label, Key, label_key, variable_key, number_key, same_key, key_by, key, known, count_if, cells}
+use Rattle.limits.specs.Uses.{Role, definition, target, listed, variable_use, number_use, Use, made, In, uses, is_label, Key, label_key, variable_key, number_key, key_by, key, known, count_if, cells}
 use Rattle.limits.specs.Symbols.{cells_before, cells_used, variable_cell, literal_cell}
-use Rattle.limits.proofs.Keys.{Way, holds, fails, way, clash, same_key_sound, known_complete}
-use Rattle.limits.proofs.Cells.{before_older, before_newest, below}
+use Rattle.limits.proofs.Keys.{known_complete}
+use Rattle.limits.proofs.Cells.{has_cell, role_cell, Place, older, newest, place_of, before_older, before_newest, below}
 use Rattle.sheets.specs.Images.{first_value, first_values, fixed_cells, first_cells}
 
--- a variable or a number word has a cell, and holds this there
-abbrev celled : Key → Bool
-celled (label_key x) = false
-celled (variable_key x) = true
-celled (number_key n) = true
-
+-- what a variable or a number word holds at first
 abbrev held_by : Key → ℤ
 held_by (label_key x) = pos 0
 held_by (variable_key x) = pos 0
 held_by (number_key n) = n
 
 module _ (w : Words) where
-  role_celled : (r : Role) (s : List ℕ) → not (is_label r) ≡ celled (key_by w r s)
-  role_celled definition s = refl
-  role_celled target s = refl
-  role_celled listed s = refl
-  role_celled variable_use s = refl
-  role_celled number_use s = refl
-
   role_holds : (r : Role) (s : List ℕ) → first_value w r s ≡ held_by (key_by w r s)
-  role_holds definition s = refl
-  role_holds target s = refl
-  role_holds listed s = refl
-  role_holds variable_use s = refl
-  role_holds number_use s = refl
+  role_holds r s = grind arith
 
   pub length_values : (us : List Use) → length (first_values w us) ≡ cells w us
   length_values [] = refl
@@ -60,26 +44,17 @@ module _ (w : Words) where
       get_or (first_values w (u ∷ us)) (cells w us) (pos 0) ≡ first_value w u.role u.spelling
   added u us a k = rw (a, k) (get_or_push (first_values w us) (first_value w u.role u.spelling) (pos 0) (cells w us) (length_values us))
 
-  -- the newest of the uses is the first of a symbol that is known only with it
-  newest_key : (k : Key) (u : Use) (us : List Use) → known w k (u ∷ us) ≡ true → known w k us ≡ false → key w u ≡ k
-  newest_key k u us e h = sym (same_key_sound k (key w u) (left_one (or_cases (same_key k (key w u)) (known w k us) e)))
-    where
-      left_one : (same_key k (key w u) ≡ true) ⊎ (known w k us ≡ true) → same_key k (key w u) ≡ true
-      left_one (inl p) = p
-      left_one (inr p) = absurd (clash p h)
-
-  held : (k : Key) → celled k ≡ true → ((us : List Use) → known w k us ≡ true → cells_before w k us < cells w us) → (us : List Use) → known w k us ≡ true →
+  held : (k : Key) → has_cell k ≡ true → ((us : List Use) → known w k us ≡ true → cells_before w k us < cells w us) → (us : List Use) → known w k us ≡ true →
       get_or (first_values w us) (cells_before w k us) (pos 0) ≡ held_by k
   held k c b [] e = absurd (false≢true e)
-  held k c b (u ∷ us) e = go (way (known w k us)) (held k c b us)
+  held k c b (u ∷ us) e = go (place_of w k u us e) (held k c b us)
     where
-      go : Way (known w k us) → (known w k us ≡ true → get_or (first_values w us) (cells_before w k us) (pos 0) ≡ held_by k) →
+      go : Place w k u us → (known w k us ≡ true → get_or (first_values w us) (cells_before w k us) (pos 0) ≡ held_by k) →
           get_or (first_values w (u ∷ us)) (cells_before w k (u ∷ us)) (pos 0) ≡ held_by k
-      go (holds h) ih =
+      go (older h) ih =
           ap (λ (n : ℕ). get_or (first_values w (u ∷ us)) n (pos 0)) (before_older w k u us h) ∙ kept u us (cells_before w k us) (b us h) ∙ ih h
-      go (fails h) ih =
-          let q : key w u ≡ k = newest_key k u us e h in
-          let a : not (is_label u.role) ≡ true = role_celled u.role u.spelling ∙ ap celled q ∙ c in
+      go (newest h q) ih =
+          let a : not (is_label u.role) ≡ true = role_cell w u.role u.spelling ∙ ap has_cell q ∙ c in
           let d : known w (key w u) us ≡ false = ap (λ (x : Key). known w x us) q ∙ h in
           ap (λ (n : ℕ). get_or (first_values w (u ∷ us)) n (pos 0)) (before_newest w k u us h) ∙ added u us a d ∙ role_holds u.role u.spelling ∙ ap held_by q
 
