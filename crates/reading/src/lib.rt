@@ -4,6 +4,7 @@
 
 ghost use Rattle.reading.specs.Laws.{Stays, Placed, Resolves};
 ghost use Rattle.reading.specs.StepLaws.{Leaves};
+ghost use Rattle.reading.specs.TokenLaws.{Ends};
 
 pub mod counts;
 pub mod returns;
@@ -26,4 +27,9 @@ pub fn words_resolve()
 // At a token the states on the stack are left, in memory as in the definitions, until one takes it.
 pub fn states_are_left()
     ensures { Leaves }
+{}
+
+// At the end of the tokens a reader without a state has read a program without refusal, and else the text breaks off.
+pub fn ends_are_told()
+    ensures { Ends }
 {}
