@@ -165,7 +165,7 @@ module _ (number : Name → ℕ) (y : Layout) (q : Rooms) where
     Comes (s ∷ k) d p = Takes number y q t s k d p ⊎ Refuses number y q t (s ∷ k) d p
 
     -- what is found by the move of the state on top
-    finding : (s : Return) (k : List Return) (p : Plan) (m : Move) → move s.state t ≡ m →
+    pub finding : (s : Return) (k : List Return) (p : Plan) (m : Move) → move s.state t ≡ m →
         leaving q (class t) (map return_code (s ∷ k)) p
         ≡ after_move m (min s.address 65535) (map return_code k) p (λ b. leaving q (class t) (map return_code k) (acted q b (min s.address 65535) 0 p))
     finding s k p m e =

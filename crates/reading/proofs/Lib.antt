@@ -4,3 +4,4 @@ pub mod Resolving
 pub mod Bounded
 pub mod Leaving
 pub mod Ending
+pub mod Refusing
