@@ -3,3 +3,4 @@ pub mod Placing
 pub mod Resolving
 pub mod Bounded
 pub mod Leaving
+mod Going

@@ -1,0 +1,328 @@
+-- One token without refusal: the reader goes on.
+use Rattle.std.proofs.Common.{◌≡◌, ℕ, suc, pred, ◌+◌, ◌-◌, ◌<◌, ◌≤◌, min, Bool, true, false, cond, ◌&&◌, ◌||◌, ◌⊎◌, List, [], ◌∷◌, ◌++◌, map, reverse, length, leb, sym, refl, ap, ◌∙◌, subst, inl, inr, arith}
+use mathlib.Core.List.{reverse_aux}
+use mathlib.Core.Option as option
+use mathlib.Core.Option.{Option, none, some, none-ne-some, some-injective}
+use lib.ListN.{length-map}
+use Rattle.std.proofs.lemmas.Bool.{false≢true, leb-false, or_left, or_right, or_parts}
+use Rattle.std.proofs.lemmas.List.{reverse-reverse, reverse-append}
+use Rattle.std.specs.Prelude.{Some, None}
+use Rattle.std.specs.Prelude as prelude
+use Rattle.fault.specs.declared.Refusal.{Refusal}
+use Rattle.fault.specs.declared.Refusal.TheVariants.{TooManyOperators, TooDeep, TooManyTargets}
+use Rattle.token.specs.Tokens as token
+use Rattle.token.specs.Tokens.{Token, keyword, sign, Placed}
+use Rattle.token.specs.declared.kinds.Keyword.TheVariants.{If, Of}
+use Rattle.token.specs.declared.kinds.Sign.TheVariants.{Open, Close}
+use Rattle.grammar.specs.Tests.{is, is_name, is_number, is_reserved, spelling}
+use Rattle.grammar.specs.Machine.{Rows, stop, on, at_name, at_number, choose}
+use Rattle.limits.specs.Uses.{is_operator, in_expression, count_if, operators, depth, parts, names}
+use Rattle.limits.specs.Rules.{operator_limit, depth_limit, list_limit, code_limit, tokens_of}
+use Rattle.limits.proofs.Configs.{depth_step, parts_step}
+use Rattle.emission.specs.Room.{Sized}
+use Rattle.emission.proofs.Rooms.{text_sized, operators_step}
+use Rattle.grammar.specs.declared.state.State.{State as Recognised}
+use Rattle.grammar.specs.Recogniser.{stack_step, reach}
+use Rattle.trees.specs.Trees.{Name}
+use Rattle.arithmetic.specs.Words.{Words}
+use Rattle.runs.specs.Code.{Layout}
+use Rattle.limits.specs.Uses.{Role, definition, target, listed, variable_use, number_use, Use, made, before_of, name_role, use_of, with_use, uses_before, uses, is_definition, is_listed, is_label, Key, label_key, key, key_by, known, same_key}
+use Rattle.limits.specs.States.{state_role}
+use Rattle.limits.proofs.Configs.{role_by_state}
+use Rattle.emission.specs.Draft.{Word, fixed, jump, jump_zero, Draft, Definition, words_of, here}
+use Rattle.emission.specs.Actions.{perform}
+use Rattle.emission.specs.Control.{control_of, control, control_in}
+use Rattle.emission.specs.Returns.{comes_back, AllBelow}
+use Rattle.emission.proofs.Controls.{control_step, control_reach}
+use Rattle.emission.proofs.Waits.{text_shown}
+use Rattle.emission.proofs.Standing.{text_below, text_nested, further}
+use Rattle.emission.proofs.Stepping as stepping
+use Rattle.symbols.specs.declared.table.Table.{Table}
+use Rattle.assembly.specs.Drawn.{Drawn, Refers, Fits, Few}
+use Rattle.reading.specs.TokenLaws.{use_by, listed_by, Told}
+use Rattle.reading.specs.Reads.{role_at, current, room, return_room, cells_of, symbol_of, label_at, mentions, refused_first, KeptNext, KnownNext, Reads}
+use Rattle.emission.specs.declared.action.Action.{Action}
+use Rattle.emission.specs.declared.action.Action.TheVariants.{Nothing, DefineLabel, SetTarget, StoreTarget, KeepName, JumpToName, LoadName, FirstLabel, FurtherLabel, ReadName, SkipLine, PrintValue, EndLine, PushVariable, PushNumber, OpenGroup, CloseGroup, Operate, EndExpression, Compare, BeginThen, BeginElse, EndElse, EndProgram}
+use Rattle.emission.specs.declared.state.State.{State}
+use Rattle.emission.specs.declared.state.State.TheVariants.{Next, Start, Label, LetWord, LetName, LetEnd, GoWord, ToWord, ToName, OfWord, OfNames, OfComma, ReadWord, ReadNames, ReadComma, PrintWord, PrintList, LeftSide, RightSide, ThenPart, ElsePart, Operand, AfterOperand, Group}
+use Rattle.emission.specs.Table.{Entry, table, returning, Return, all_entered, Translator, translator, translated, follow, draft_step, Move, refuse, leave, enter, decided, move}
+use Rattle.emission.specs.Classes.{class}
+use Rattle.emission.proofs.Tables.{by_class}
+use Rattle.assembly.specs.Plans.{Plan, Rooms, acted}
+use Rattle.reading.specs.declared.returns.Return.{Return as Coded}
+use Rattle.reading.specs.Steps.{return_code, Found, found, after_move, leaving, pushed_all, Kept, Takes, Refuses}
+use Rattle.reading.proofs.Leaving.{entry_of, no_entry, leaves}
+use Rattle.reading.specs.declared.counts.Counts.{Counts}
+use Rattle.reading.specs.Counting.{counted, form_refusal, Counted}
+
+-- Entries.
+
+-- what takes a token is an entry of some state
+entry_from : (q : Rooms) (t : Token) (ks : List Coded) (p : Plan) (a : ℕ) (e : Entry) → (leaving q (class t) ks p).taken ≡ some (a, e) → (s : State) × (move s t ≡ enter e)
+entry_from q t [] p a e h = absurd (none-ne-some (a, e) h)
+entry_from q t (r ∷ ks) p a e h =
+    go (move r.state t) (λ b. entry_from q t ks (acted q b r.address 0 p) a e) refl
+    (sym (ap (λ (m : Move). (after_move m r.address ks p (λ b. leaving q (class t) ks (acted q b r.address 0 p))).taken) (by_class r.state t)) ∙ h)
+  where
+    go : (m : Move) → ((b : Action) → (leaving q (class t) ks (acted q b r.address 0 p)).taken ≡ some (a, e) → (s : State) × (move s t ≡ enter e)) → move r.state t ≡ m →
+        (after_move m r.address ks p (λ b. leaving q (class t) ks (acted q b r.address 0 p))).taken ≡ some (a, e) → (s : State) × (move s t ≡ enter e)
+    go refuse ih f g = absurd (none-ne-some (a, e) g)
+    go (leave b) ih f g = ih b g
+    go (enter x) ih f g = (r.state, f ∙ ap enter (ap (λ (z : ℕ × Entry). z.1) (some-injective (r.address, x) (a, e) g)))
+
+-- the actions that need not know what a name refers to, and define no label
+abbrev pub plain_action : Action → Bool
+plain_action Nothing = true
+plain_action DefineLabel = false
+plain_action SetTarget = false
+plain_action StoreTarget = false
+plain_action KeepName = false
+plain_action JumpToName = false
+plain_action LoadName = true
+plain_action FirstLabel = false
+plain_action FurtherLabel = false
+plain_action ReadName = false
+plain_action SkipLine = false
+plain_action PrintValue = true
+plain_action EndLine = false
+plain_action PushVariable = false
+plain_action PushNumber = false
+plain_action OpenGroup = true
+plain_action CloseGroup = true
+plain_action (Operate o) = true
+plain_action EndExpression = false
+plain_action (Compare x) = true
+plain_action BeginThen = true
+plain_action BeginElse = true
+plain_action EndElse = false
+plain_action EndProgram = true
+
+-- a keyword or a sign is taken by such an action
+abbrev PlainRows : Rows Entry → Type 0
+PlainRows stop = Unit {0}
+PlainRows (on u e z) = (plain_action e.action ≡ true) × PlainRows z
+PlainRows (at_name f z) = PlainRows z
+PlainRows (at_number f z) = PlainRows z
+
+plain_rows : (s : State) → PlainRows (table s)
+plain_rows s = grind arith
+
+module _ (t : Token) (e : Entry) (n : (is_name t || is_number t) ≡ false) where
+  chosen_plain : (R : Rows Entry) → PlainRows R → choose R t ≡ some e → plain_action e.action ≡ true
+  chosen_plain stop h f = absurd (none-ne-some e f)
+  chosen_plain (on u x z) h f = pick (is u t) (chosen_plain z h.1) f
+    where
+      pick : (b : Bool) → (choose z t ≡ some e → plain_action e.action ≡ true) → cond b (some x) (choose z t) ≡ some e → plain_action e.action ≡ true
+      pick true ih g = ap (λ (v : Entry). plain_action v.action) (sym (some-injective x e g)) ∙ h.0
+      pick false ih g = ih g
+  chosen_plain (at_name x z) h f = chosen_plain z h (sym (ap (λ b. cond b (some (x (spelling t))) (choose z t)) (or_parts (is_name t) (is_number t) n).0) ∙ f)
+  chosen_plain (at_number x z) h f = chosen_plain z h (sym (ap (λ b. cond b (some (x (spelling t))) (choose z t)) (or_parts (is_name t) (is_number t) n).1) ∙ f)
+
+  pub plain_entry : (s : State) → move s t ≡ enter e → plain_action e.action ≡ true
+  plain_entry s f = chosen_plain (table s) (plain_rows s) (entry_of s t e f)
+
+-- Counts.
+
+-- no refusal of 9 to 11
+pub record NoForm (c : Counts) (ifs : ℕ) (l : Bool) (t : Token) : Type 0 where
+  pub operators_fit : is_operator t ≡ true → c.operators < operator_limit
+  pub depth_fits : is (sign Open) t ≡ true → c.depth < depth_limit
+  pub ifs_fit : is (keyword If) t ≡ true → ifs < depth_limit
+  pub list_fits : l ≡ true → c.names < list_limit
+
+no_form_of : (c : Counts) (ifs : ℕ) (l : Bool) (t : Token) → form_refusal c ifs l t ≡ None → NoForm c ifs l t
+no_form_of c ifs l t e =
+    let x = go (is_operator t) (leb operator_limit c.operators) (is (sign Open) t) (leb depth_limit c.depth) (is (keyword If) t) (leb depth_limit ifs) l (leb list_limit c.names) e in
+    record {
+      operators_fit = λ q. leb-false operator_limit c.operators (x.0 q);
+      depth_fits = λ q. leb-false depth_limit c.depth (x.1 q);
+      ifs_fit = λ q. leb-false depth_limit ifs (x.2 q);
+      list_fits = λ q. leb-false list_limit c.names (x.3 q);
+    }
+  where
+    go : (a b c d e f g h : Bool) → cond (a && b) (Some TooManyOperators) (cond ((c && d) || (e && f)) (Some TooDeep) (cond (g && h) (Some TooManyTargets) None)) ≡ None →
+        (a ≡ true → b ≡ false) × (c ≡ true → d ≡ false) × (e ≡ true → f ≡ false) × (g ≡ true → h ≡ false)
+    go a b c d e f g h q = (grind arith, grind arith, grind arith, grind arith)
+
+counted_more : (past : List Token) (c : Counts) (t : Token) → Counted past c → (is_operator t ≡ true → c.operators < operator_limit) →
+    (is (sign Open) t ≡ true → c.depth < depth_limit) → (is (keyword If) t ≡ true → length (parts past) < depth_limit) → Counted (t ∷ past) (counted t c)
+counted_more past c t h o d i = record {
+  operators_are = ops (is_operator t) (in_expression t);
+  depth_is = deep (is (sign Open) t) (is (sign Close) t) (in_expression t);
+  names_are = named (is_reserved t) (is_name t);
+  few_operators = operators_step t past h.few_operators (λ e. let x = o e in let y = h.operators_are in omega arith);
+  few_open = depth_step t past h.few_open (λ e. let x = d e in let y = h.depth_is in omega arith);
+  few_ifs = parts_step t past h.few_ifs i;
+}
+  where
+    ops : (a b : Bool) → cond a (min (c.operators + 1) 65535) (cond b c.operators 0) ≡ cond a (suc (operators past)) (cond b (operators past) 0)
+    ops a b = let x = h.operators_are in let l = h.few_operators in grind arith
+
+    deep : (a b z : Bool) → cond a (min (c.depth + 1) 65535) (cond b (c.depth - 1) (cond z c.depth 0)) ≡ cond a (suc (depth past)) (cond b (pred (depth past)) (cond z (depth past) 0))
+    deep a b z = let x = h.depth_is in let l = h.few_open in grind arith
+
+    named : (a b : Bool) → cond a 0 (cond b (min (c.names + 1) 65535) c.names) ≡ min (cond a 0 (count_if b (names past))) 65535
+    named a b = let x = h.names_are in grind arith
+
+-- Roles.
+
+abbrev RoleOf : List Recognised → Bool → Role → Type 0
+RoleOf [] o x = Unit {0}
+RoleOf (r ∷ rs) o x = state_role r o ≡ x
+
+role_of : (s : State) (o : Bool) → RoleOf (control_of s) o (role_at s o)
+role_of Next o = refl
+role_of Start o = refl
+role_of Label o = refl
+role_of LetWord o = refl
+role_of LetName o = refl
+role_of LetEnd o = tt
+role_of GoWord o = refl
+role_of ToWord o = refl
+role_of ToName o = refl
+role_of OfWord o = refl
+role_of OfNames o = refl
+role_of OfComma o = refl
+role_of ReadWord o = refl
+role_of ReadNames o = refl
+role_of ReadComma o = refl
+role_of PrintWord o = refl
+role_of PrintList o = refl
+role_of LeftSide o = refl
+role_of RightSide o = refl
+role_of ThenPart o = refl
+role_of ElsePart o = tt
+role_of Operand o = refl
+role_of AfterOperand o = refl
+role_of Group o = refl
+
+-- the use of a token that a translator takes is what its current state says
+use_is : (y : Layout) (before after : List Token) (t : Token) (s : Return) (k : List Return) (d : Draft) (z : Translator) →
+    translated y (reverse before) ≡ some (translator (s ∷ k) d) → draft_step y (translator (s ∷ k) d) t ≡ some z →
+    use_of before t after ≡ use_by (role_at s.state (before_of after)) t
+use_is y before after (token.name n) s k d z e f =
+    let c = text_shown y (reverse before) s k d e in
+    let g : control (s ∷ k) ≡ c.0 ∷ control k = ap (λ z. z ++ control k) c.1 in
+    let q : reach (reverse before) ≡ some (c.0 ∷ control k) = sym (control_reach y (reverse before)) ∙ ap (option.map control_in) e ∙ ap (λ (l : List Recognised). some l) g in
+    let v : stack_step (c.0 ∷ control k) (token.name n) ≡ some (control_in z) =
+    ap (λ z. stack_step z (token.name n)) (sym g) ∙ sym (control_step y (translator (s ∷ k) d) (token.name n)) ∙ ap (option.map control_in) f in
+    let x = role_by_state (reverse before) c.0 (control k) (control_in z) n after q v in
+    let r : state_role c.0 (before_of after) ≡ role_at s.state (before_of after) =
+    subst (λ (l : List Recognised). RoleOf l (before_of after) (role_at s.state (before_of after))) c.1 (role_of s.state (before_of after)) in
+    ap (λ (b : List Token). some (made (name_role b after) n)) (sym (reverse-reverse before)) ∙ ap (λ (v : Role). some (made v n)) (x ∙ r)
+use_is y before after (token.number n) s k d z e f = refl
+use_is y before after (keyword j) s k d z e f = refl
+use_is y before after (sign j) s k d z e f = refl
+use_is y before after (token.other b) s k d z e f = refl
+
+-- The IFs that are open where one more begins.
+
+no_if_below : (q : Rooms) (k : List Return) (p : Plan) → AllBelow k → (leaving q 9 (map return_code k) p).taken ≡ none
+no_if_below q [] p b = refl
+no_if_below q (r ∷ k) p b = go r.state b.0 (λ p. no_if_below q k p b.1)
+  where
+    go : (s : State) → comes_back s ≡ true → ((p : Plan) → (leaving q 9 (map return_code k) p).taken ≡ none) →
+        (leaving q 9 (record { state = s; address = min r.address 65535 } ∷ map return_code k) p).taken ≡ none
+    go Next e ih = refl
+    go Start e ih = absurd (false≢true e)
+    go Label e ih = absurd (false≢true e)
+    go LetWord e ih = absurd (false≢true e)
+    go LetName e ih = absurd (false≢true e)
+    go LetEnd e ih = ih _
+    go GoWord e ih = absurd (false≢true e)
+    go ToWord e ih = absurd (false≢true e)
+    go ToName e ih = absurd (false≢true e)
+    go OfWord e ih = absurd (false≢true e)
+    go OfNames e ih = absurd (false≢true e)
+    go OfComma e ih = absurd (false≢true e)
+    go ReadWord e ih = absurd (false≢true e)
+    go ReadNames e ih = absurd (false≢true e)
+    go ReadComma e ih = absurd (false≢true e)
+    go PrintWord e ih = absurd (false≢true e)
+    go PrintList e ih = ih _
+    go LeftSide e ih = refl
+    go RightSide e ih = refl
+    go ThenPart e ih = refl
+    go ElsePart e ih = ih _
+    go Operand e ih = absurd (false≢true e)
+    go AfterOperand e ih = absurd (false≢true e)
+    go Group e ih = refl
+
+if_starts : (q : Rooms) (s : Return) (k : List Return) (p : Plan) (a : ℕ) (e : Entry) → AllBelow k → (leaving q 9 (map return_code (s ∷ k)) p).taken ≡ some (a, e) →
+    (s.state ≡ Start) × ((leaving q 9 (map return_code (s ∷ k)) p).below ≡ map return_code k)
+if_starts q s k p a e b = go s.state (λ x. no_if_below q k x b)
+  where
+    go : (r : State) → ((x : Plan) → (leaving q 9 (map return_code k) x).taken ≡ none) → (leaving q 9 (record { state = r; address = min s.address 65535 } ∷ map return_code k) p).taken ≡ some (a, e) →
+        (r ≡ Start) × ((leaving q 9 (record { state = r; address = min s.address 65535 } ∷ map return_code k) p).below ≡ map return_code k)
+    go Next ih h = absurd (none-ne-some (a, e) h)
+    go Start ih h = (refl, refl)
+    go Label ih h = absurd (none-ne-some (a, e) h)
+    go LetWord ih h = absurd (none-ne-some (a, e) h)
+    go LetName ih h = absurd (none-ne-some (a, e) h)
+    go LetEnd ih h = absurd (none-ne-some (a, e) (sym (ih _) ∙ h))
+    go GoWord ih h = absurd (none-ne-some (a, e) h)
+    go ToWord ih h = absurd (none-ne-some (a, e) h)
+    go ToName ih h = absurd (none-ne-some (a, e) (sym (ih _) ∙ h))
+    go OfWord ih h = absurd (none-ne-some (a, e) h)
+    go OfNames ih h = absurd (none-ne-some (a, e) (sym (ih _) ∙ h))
+    go OfComma ih h = absurd (none-ne-some (a, e) h)
+    go ReadWord ih h = absurd (none-ne-some (a, e) (sym (ih _) ∙ h))
+    go ReadNames ih h = absurd (none-ne-some (a, e) (sym (ih _) ∙ h))
+    go ReadComma ih h = absurd (none-ne-some (a, e) h)
+    go PrintWord ih h = absurd (none-ne-some (a, e) (sym (ih _) ∙ h))
+    go PrintList ih h = absurd (none-ne-some (a, e) (sym (ih _) ∙ h))
+    go LeftSide ih h = absurd (none-ne-some (a, e) h)
+    go RightSide ih h = absurd (none-ne-some (a, e) h)
+    go ThenPart ih h = absurd (none-ne-some (a, e) h)
+    go ElsePart ih h = absurd (none-ne-some (a, e) (sym (ih _) ∙ h))
+    go Operand ih h = absurd (none-ne-some (a, e) h)
+    go AfterOperand ih h = absurd (none-ne-some (a, e) (sym (ih _) ∙ h))
+    go Group ih h = absurd (none-ne-some (a, e) h)
+
+if_is : (t : Token) → is (keyword If) t ≡ true → class t ≡ 9
+if_is t e = grind arith
+
+-- The reader.
+
+module _ (w : Words) (text : List ℕ) (past : List Placed) (p : Placed) (ps : List Placed) (y : Plan) (k : List Coded) (c : Counts) (t : Table)
+    (h : Reads w text past (p ∷ ps) y k c t) where
+  abbrev d : Draft
+  d = h.translator.made
+
+  module _ (s : Return) (ks : List Return) (si : h.translator.stack ≡ s ∷ ks) where
+    reached : translated (cells_of w text) (reverse (tokens_of past)) ≡ some (translator (s ∷ ks) d)
+    reached = h.reached ∙ ap (λ (st : List Return). some (translator st d)) si
+
+    returns : k ≡ map return_code (s ∷ ks)
+    returns = h.returns ∙ ap (map return_code) si
+
+    kept : Kept (symbol_of w text) (cells_of w text) p.token s d y
+    kept = subst (λ (st : List Return). KeptNext w text (p.token ∷ tokens_of ps) st d y) si h.kept
+
+    known_next : s.state ≡ ToName → is (keyword Of) p.token ≡ false → known w (label_key d.kept) (uses_before (tokens_of past) (p.token ∷ tokens_of ps)) ≡ true
+    known_next = subst (λ (st : List Return). KnownNext w text (p.token ∷ tokens_of ps) st d.kept (uses_before (tokens_of past) (p.token ∷ tokens_of ps))) si h.known_next
+
+    all_below : AllBelow ks
+    all_below = text_below (cells_of w text) (reverse (tokens_of past)) s ks d reached
+
+    -- there is room for the draft
+    sized : Sized (tokens_of past) (translator (s ∷ ks) d)
+    sized = subst (λ (b : List Token). Sized b (translator (s ∷ ks) d)) (reverse-reverse (tokens_of past)) (text_sized (cells_of w text) (reverse (tokens_of past)) (translator (s ∷ ks) d) reached)
+
+    fits : Fits room d
+    fits = let a = sized.cells in let b = sized.marks in let e = h.counted.few_operators in let f = h.counted.few_open in record { cells = omega arith; marks = omega arith }
+
+    few : Few d
+    few = let a = sized.temporaries in let b = sized.marks in let e = h.counted.few_operators in let f = h.counted.few_open in omega arith
+
+    way : Takes (symbol_of w text) (cells_of w text) room p.token s ks d y ⊎ Refuses (symbol_of w text) (cells_of w text) room p.token (s ∷ ks) d y
+    way = leaves.found (symbol_of w text) (cells_of w text) room p.token s ks d y h.drawn fits few all_below kept
+
+    -- where IF comes, below the start of its command is a return for each open IF and one more
+    open_ifs : (a : ℕ) (e : Entry) → (leaving room (class p.token) k y).taken ≡ some (a, e) → is (keyword If) p.token ≡ true →
+        length (leaving room (class p.token) k y).below ≡ suc (length (parts (tokens_of past)))
+    open_ifs a e g i =
+        let m : leaving room (class p.token) k y ≡ leaving room 9 (map return_code (s ∷ ks)) y = (λ j. leaving room (if_is p.token i j) (returns j) y) in
+        let x = if_starts room s ks y a e all_below (ap (λ (z : Found). z.taken) (sym m) ∙ g) in
+        let n = text_nested (cells_of w text) (reverse (tokens_of past)) s ks d reached x.0 in
+        ap (λ (z : Found). length z.below) m ∙ ap length x.1 ∙ length-map ks return_code ∙ n ∙ ap (λ (b : List Token). suc (length (parts b))) (reverse-reverse (tokens_of past))
