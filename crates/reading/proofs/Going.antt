@@ -4,7 +4,7 @@ use mathlib.Core.List.{reverse_aux}
 use mathlib.Core.Option as option
 use mathlib.Core.Option.{Option, none, some, none-ne-some, some-injective}
 use lib.ListN.{length-map}
-use Rattle.std.proofs.lemmas.Bool.{false≢true, leb-false, or_left, or_right, or_parts}
+use Rattle.std.proofs.lemmas.Bool.{false≢true, leb-false, lt-leb, or_left, or_right, or_parts}
 use Rattle.std.proofs.lemmas.List.{reverse-reverse, reverse-append}
 use Rattle.std.specs.Prelude.{Some, None}
 use Rattle.std.specs.Prelude as prelude
@@ -27,6 +27,16 @@ use Rattle.trees.specs.Trees.{Name}
 use Rattle.arithmetic.specs.Words.{Words}
 use Rattle.runs.specs.Code.{Layout}
 use Rattle.limits.specs.Uses.{Role, definition, target, listed, variable_use, number_use, Use, made, before_of, name_role, use_of, with_use, uses_before, uses, is_definition, is_listed, is_label, Key, label_key, key, key_by, known, same_key}
+use Rattle.std.proofs.lemmas.Grind.{reverse_onto}
+use Rattle.limits.specs.Refusals.{lowest, or_else, used_so, limit_checks, refused}
+use Rattle.limits.specs.Pass.{or_fault, pass}
+use Rattle.emission.specs.Layouts.{layout}
+use Rattle.symbols.specs.Mentions.{Mention, uses_of, use_refusal, mentions_before, with_mention, index}
+use Rattle.symbols.specs.Table.{Holds}
+use Rattle.symbols.specs.Laws.{symbol_refusal, form_checks_at, form_checks}
+use Rattle.symbols.proofs.Whole.{same_uses, lowest_is}
+use Rattle.assembly.proofs.Acting.{acts}
+use Rattle.reading.specs.References.{reference, numbering, Matches, neither, another_use, both, Labelled}
 use Rattle.limits.specs.States.{state_role}
 use Rattle.limits.proofs.Configs.{role_by_state}
 use Rattle.emission.specs.Draft.{Word, fixed, jump, jump_zero, Draft, Definition, words_of, here}
@@ -282,6 +292,144 @@ if_starts q s k p a e b = go s.state (λ x. no_if_below q k x b)
 if_is : (t : Token) → is (keyword If) t ≡ true → class t ≡ 9
 if_is t e = grind arith
 
+-- What a name or a number refers to.
+
+-- a label by its symbol, a variable or a number by its cell
+abbrev pub Means : (Name → ℕ) → Layout → Role → Name → ℕ → Type 0
+Means number y definition n r = r ≡ number n
+Means number y target n r = r ≡ number n
+Means number y listed n r = r ≡ number n
+Means number y variable_use n r = r ≡ y.variable_cell n
+Means number y number_use n r = r ≡ y.literal_cell n
+
+abbrev pub UseMeans : (Name → ℕ) → Layout → Option Use → ℕ → Type 0
+UseMeans number y none r = Unit {0}
+UseMeans number y (some u) r = Means number y u.role u.spelling r
+
+means_of : (w : Words) (ts : List Token) (q : Role) (n : Name) (r : ℕ) → r ≡ reference w (uses ts) (made q n) → Means (numbering w ts) (layout w ts) q n r
+means_of w ts definition n r e = e
+means_of w ts target n r e = e
+means_of w ts listed n r e = e
+means_of w ts variable_use n r e = e
+means_of w ts number_use n r e = e
+
+abbrev Entered : (Entry → Type 0) → Option Entry → Type 0
+Entered P none = Unit {0}
+Entered P (some e) = P e
+
+module _ (number : Name → ℕ) (y : Layout) (d : Draft) (p : Plan) (n : Name) (r : ℕ) where
+  name_refers : (s : State) (o : Bool) → Entered (λ e. Means number y (role_at s o) n r → Refers number y e.action n r d p) (choose (table s) (token.name n))
+  name_refers Next o = tt
+  name_refers Start o = λ m. tt
+  name_refers Label o = tt
+  name_refers LetWord o = λ m. m
+  name_refers LetName o = tt
+  name_refers LetEnd o = tt
+  name_refers GoWord o = tt
+  name_refers ToWord o = λ m. tt
+  name_refers ToName o = tt
+  name_refers OfWord o = λ m. m
+  name_refers OfNames o = tt
+  name_refers OfComma o = λ m. m
+  name_refers ReadWord o = λ m. m
+  name_refers ReadNames o = tt
+  name_refers ReadComma o = λ m. m
+  name_refers PrintWord o = λ m. m
+  name_refers PrintList o = tt
+  name_refers LeftSide o = tt
+  name_refers RightSide o = tt
+  name_refers ThenPart o = tt
+  name_refers ElsePart o = tt
+  name_refers Operand o = λ m. m
+  name_refers AfterOperand o = tt
+  name_refers Group o = tt
+
+  number_refers : (s : State) → Entered (λ e. r ≡ y.literal_cell n → Refers number y e.action n r d p) (choose (table s) (token.number n))
+  number_refers Next = tt
+  number_refers Start = tt
+  number_refers Label = tt
+  number_refers LetWord = tt
+  number_refers LetName = tt
+  number_refers LetEnd = tt
+  number_refers GoWord = tt
+  number_refers ToWord = tt
+  number_refers ToName = tt
+  number_refers OfWord = tt
+  number_refers OfNames = tt
+  number_refers OfComma = tt
+  number_refers ReadWord = tt
+  number_refers ReadNames = tt
+  number_refers ReadComma = tt
+  number_refers PrintWord = λ m. m
+  number_refers PrintList = tt
+  number_refers LeftSide = tt
+  number_refers RightSide = tt
+  number_refers ThenPart = tt
+  number_refers ElsePart = tt
+  number_refers Operand = λ m. m
+  number_refers AfterOperand = tt
+  number_refers Group = tt
+
+  plain_refers : (b : Action) → plain_action b ≡ true → (b ≡ LoadName → p.kept ≡ y.variable_cell d.kept) → Refers number y b n r d p
+  plain_refers Nothing e l = tt
+  plain_refers DefineLabel e l = tt
+  plain_refers SetTarget e l = absurd (false≢true e)
+  plain_refers StoreTarget e l = tt
+  plain_refers KeepName e l = tt
+  plain_refers JumpToName e l = absurd (false≢true e)
+  plain_refers LoadName e l = l refl
+  plain_refers FirstLabel e l = absurd (false≢true e)
+  plain_refers FurtherLabel e l = absurd (false≢true e)
+  plain_refers ReadName e l = absurd (false≢true e)
+  plain_refers SkipLine e l = tt
+  plain_refers PrintValue e l = tt
+  plain_refers EndLine e l = tt
+  plain_refers PushVariable e l = absurd (false≢true e)
+  plain_refers PushNumber e l = absurd (false≢true e)
+  plain_refers OpenGroup e l = tt
+  plain_refers CloseGroup e l = tt
+  plain_refers (Operate o) e l = tt
+  plain_refers EndExpression e l = tt
+  plain_refers (Compare x) e l = tt
+  plain_refers BeginThen e l = tt
+  plain_refers BeginElse e l = tt
+  plain_refers EndElse e l = tt
+  plain_refers EndProgram e l = tt
+
+-- what the action of an entry needs to know, at the token that the entry takes
+refers_at : (number : Name → ℕ) (y : Layout) (t : Token) (s q : State) (o : Bool) (e : Entry) (r : ℕ) (d : Draft) (p : Plan) → move q t ≡ enter e →
+    ((is_name t || is_number t) ≡ true → move s t ≡ enter e) → UseMeans number y (use_by (role_at s o) t) r → (e.action ≡ LoadName → p.kept ≡ y.variable_cell d.kept) →
+    Refers number y e.action (spelling t) r d p
+refers_at number y (token.name n) s q o e r d p f g m l =
+    subst (Entered (λ x. Means number y (role_at s o) n r → Refers number y x.action n r d p)) (entry_of s (token.name n) e (g refl)) (name_refers number y d p n r s o) m
+refers_at number y (token.number n) s q o e r d p f g m l =
+    subst (Entered (λ x. r ≡ y.literal_cell n → Refers number y x.action n r d p)) (entry_of s (token.number n) e (g refl)) (number_refers number y d p n r s) m
+refers_at number y (keyword j) s q o e r d p f g m l = plain_refers number y d p [] r e.action (plain_entry (keyword j) e refl q f) l
+refers_at number y (sign j) s q o e r d p f g m l = plain_refers number y d p [] r e.action (plain_entry (sign j) e refl q f) l
+refers_at number y (token.other b) s q o e r d p f g m l = plain_refers number y d p [] r e.action (plain_entry (token.other b) e refl q f) l
+
+-- No refusal stands at the token.
+
+no_symbol_left : (w : Words) (us vs : List Use) (o : Option Use) → us ≡ vs → ((u : Use) → o ≡ some u → use_refusal w us u ≡ none) → symbol_refusal w vs o ≡ none
+no_symbol_left w us vs none e f = refl
+no_symbol_left w us vs (some u) e f = ap (λ z. use_refusal w z u) (sym e) ∙ f u refl
+
+both_not : (a : Bool) (m n : ℕ) → (a ≡ true → n < m) → (a && leb m n) ≡ false
+both_not true m n f = lt-leb m n (f refl)
+both_not false m n f = refl
+
+no_form_left : (past rest : List Token) (c : Counts) (ifs : ℕ) (t : Token) (o : Option Use) → Counted past c → NoForm c ifs (listed_by o) t →
+    (is (keyword If) t ≡ true → ifs ≡ length (parts past)) → lowest (form_checks_at past (t ∷ rest) o) ≡ none
+no_form_left past rest c ifs t o h f i =
+    let x : (is_operator t && leb operator_limit (operators past)) ≡ false = both_not (is_operator t) operator_limit (operators past) (λ e. let z = f.operators_fit e in let v = h.operators_are in omega arith) in
+    let y : (is (sign Open) t && leb depth_limit (depth past)) ≡ false = both_not (is (sign Open) t) depth_limit (depth past) (λ e. let z = f.depth_fits e in let v = h.depth_is in omega arith) in
+    let z : (is (keyword If) t && leb depth_limit (length (parts past))) ≡ false = both_not (is (keyword If) t) depth_limit (length (parts past)) (λ e. let z = f.ifs_fit e in let v = i e in omega arith) in
+    (λ j. cond (x j) (some 9) (cond (y j) (some 10) (cond (z j) (some 10) (cond (so o f.list_fits j) (some 11) none))))
+  where
+    so : (o : Option Use) → (listed_by o ≡ true → c.names < list_limit) → used_so (λ r s. is_listed r && leb list_limit (names past)) o ≡ false
+    so none g = refl
+    so (some u) g = both_not (is_listed u.role) list_limit (names past) (λ e. let z = g e in let v = h.names_are in omega arith)
+
 -- The reader.
 
 module _ (w : Words) (text : List ℕ) (past : List Placed) (p : Placed) (ps : List Placed) (y : Plan) (k : List Coded) (c : Counts) (t : Table)
@@ -326,3 +474,78 @@ module _ (w : Words) (text : List ℕ) (past : List Placed) (p : Placed) (ps : L
         let x = if_starts room s ks y a e all_below (ap (λ (z : Found). z.taken) (sym m) ∙ g) in
         let n = text_nested (cells_of w text) (reverse (tokens_of past)) s ks d reached x.0 in
         ap (λ (z : Found). length z.below) m ∙ ap length x.1 ∙ length-map ks return_code ∙ n ∙ ap (λ (b : List Token). suc (length (parts b))) (reverse-reverse (tokens_of past))
+
+    module _ (x : Takes (symbol_of w text) (cells_of w text) room p.token s ks d y) where
+      abbrev after_token : Draft
+      after_token = perform (cells_of w text) x.entry.action x.address (spelling p.token) x.after
+
+      abbrev next : Translator
+      next = follow (cells_of w text) x.entry x.address (spelling p.token) x.below x.after
+
+      abbrev used : Option Use
+      used = use_by (role_at s.state (before_of (tokens_of ps))) p.token
+
+      found_is : leaving room (class p.token) k y ≡ found (some (min x.address 65535, x.entry)) (map return_code x.below) x.plan
+      found_is = (λ j. leaving room (class p.token) (returns j) y) ∙ x.finds
+
+      from_state : (q : State) × (move q p.token ≡ enter x.entry)
+      from_state = entry_from room p.token (map return_code (s ∷ ks)) y (min x.address 65535) x.entry (ap (λ (z : Found). z.taken) x.finds)
+
+      used_is : use_of (tokens_of past) p.token (tokens_of ps) ≡ used
+      used_is = use_is (cells_of w text) (tokens_of past) (tokens_of ps) p.token s ks d next reached x.steps
+
+      reached_next : translated (cells_of w text) (reverse (p.token ∷ tokens_of past)) ≡ some next
+      reached_next =
+          ap (translated (cells_of w text)) (reverse_onto (tokens_of past) p.token [])
+          ∙ further (cells_of w text) (reverse (tokens_of past)) (translator (s ∷ ks) d) p.token reached ∙ x.steps
+
+      open_here : is (keyword If) p.token ≡ true → length (leaving room (class p.token) k y).below ≡ suc (length (parts (tokens_of past)))
+      open_here = open_ifs (min x.address 65535) x.entry (ap (λ (z : Found). z.taken) found_is)
+
+      sized_next : Sized (p.token ∷ tokens_of past) next
+      sized_next = subst (λ (b : List Token). Sized b next) (reverse-reverse (p.token ∷ tokens_of past)) (text_sized (cells_of w text) (reverse (p.token ∷ tokens_of past)) next reached_next)
+
+      same_mentions : uses_of (mentions w text past (p ∷ ps)) ≡ uses_before (tokens_of past) (p.token ∷ tokens_of ps)
+      same_mentions = same_uses (label_at w text) past (p.token ∷ tokens_of ps)
+
+      -- no refusal of 9 to 11
+      module _ (f : NoForm c (length (leaving room (class p.token) k y).below - 1) (listed_by used) p.token) where
+        counted_next : Counted (p.token ∷ tokens_of past) (counted p.token c)
+        counted_next = counted_more (tokens_of past) c p.token h.counted f.operators_fit f.depth_fits (λ i. let a = open_here i in let b = f.ifs_fit i in omega arith)
+
+        fits_next : Fits room after_token
+        fits_next =
+            let a = sized_next.cells in let b = sized_next.marks in let e = counted_next.few_operators in let g = counted_next.few_open in
+            record { cells = omega arith; marks = omega arith }
+
+        deep_next : length next.stack ≤ 72
+        deep_next = let a = sized_next.stack in let e = counted_next.few_ifs in let g = counted_next.few_open in omega arith
+
+        drawn_next : (r : ℕ) → UseMeans (symbol_of w text) (cells_of w text) used r → Drawn (symbol_of w text) after_token (acted room x.entry.action (min x.address 65535) r x.plan)
+        drawn_next r m =
+            acts (cells_of w text) (symbol_of w text) room x.entry.action x.address (spelling p.token) r x.after x.plan x.drawn
+            (refers_at (symbol_of w text) (cells_of w text) p.token s.state from_state.0 (before_of (tokens_of ps)) x.entry r x.after x.plan from_state.1 (λ e. (x.direct e).0) m x.loads)
+            x.few fits_next
+
+        returns_next : (r : ℕ) → UseMeans (symbol_of w text) (cells_of w text) used r →
+            pushed_all return_room (acted room x.entry.action (min x.address 65535) r x.plan).made.count x.entry.states (map return_code x.below) ≡ map return_code next.stack
+        returns_next r m =
+            ap (λ (n : ℕ). pushed_all return_room n x.entry.states (map return_code x.below)) (drawn_next r m).words.count
+            ∙ leaves.entered return_room (here after_token) x.entry.states x.below deep_next
+
+        passes_next : ((u : Use) → used ≡ some u → use_refusal w (uses_of (mentions w text past (p ∷ ps))) u ≡ none) →
+            pass w (length text) (control_in next) (p.token ∷ tokens_of past) ps ≡ refused_first w text
+        passes_next clear =
+            let q : stack_step (control_in (translator (s ∷ ks) d)) p.token ≡ some (control_in next) =
+            sym (control_step (cells_of w text) (translator (s ∷ ks) d) p.token) ∙ ap (option.map control_in) x.steps in
+            let a : symbol_refusal w (uses_before (tokens_of past) (p.token ∷ tokens_of ps)) (use_of (tokens_of past) p.token (tokens_of ps)) ≡ none =
+            ap (symbol_refusal w (uses_before (tokens_of past) (p.token ∷ tokens_of ps))) used_is
+            ∙ no_symbol_left w (uses_of (mentions w text past (p ∷ ps))) (uses_before (tokens_of past) (p.token ∷ tokens_of ps)) used same_mentions clear in
+            let b : lowest (form_checks_at (tokens_of past) (p.token ∷ tokens_of ps) (use_of (tokens_of past) p.token (tokens_of ps))) ≡ none =
+            ap (λ o. lowest (form_checks_at (tokens_of past) (p.token ∷ tokens_of ps) o)) used_is
+            ∙ no_form_left (tokens_of past) (tokens_of ps) c (length (leaving room (class p.token) k y).below - 1) p.token used h.counted f (λ i. let z = open_here i in omega arith) in
+            let l : lowest (limit_checks w (tokens_of past) (p.token ∷ tokens_of ps)) ≡ none = lowest_is w (tokens_of past) (p.token ∷ tokens_of ps) ∙ (λ j. or_else (a j) (b j)) in
+            let m : pass w (length text) (control_in (translator (s ∷ ks) d)) (tokens_of past) (p ∷ ps) ≡ pass w (length text) (control_in next) (p.token ∷ tokens_of past) ps =
+            (λ j. or_fault (q j) (λ (v : List Recognised). or_else (refused (lowest (limit_checks w (tokens_of past) (p.token ∷ tokens_of ps))) p.offset) (pass w (length text) v (p.token ∷ tokens_of past) ps)) p.offset)
+            ∙ ap (λ o. or_else (refused o p.offset) (pass w (length text) (control_in next) (p.token ∷ tokens_of past) ps)) l in
+            sym m ∙ ap (λ (st : List Return). pass w (length text) (control st) (tokens_of past) (p ∷ ps)) (sym si) ∙ h.passes
