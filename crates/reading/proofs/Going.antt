@@ -37,6 +37,11 @@ use Rattle.symbols.specs.Laws.{symbol_refusal, form_checks_at, form_checks}
 use Rattle.symbols.proofs.Whole.{same_uses, lowest_is}
 use Rattle.assembly.proofs.Acting.{acts}
 use Rattle.reading.specs.References.{reference, numbering, Matches, neither, another_use, both, Labelled}
+use Rattle.grammar.specs.Machine.{Config, start, labelling, let_word, let_name, go_word, to_word, to_name, of_word, of_names, of_comma, read_word, read_names, read_comma, print_word, operand, after, done}
+use Rattle.limits.proofs.Pasts.{past_of}
+use Rattle.limits.proofs.Keys.{same_key_complete}
+use Rattle.emission.specs.Table.{to}
+use Rattle.emission.proofs.Image.{image}
 use Rattle.limits.specs.States.{state_role}
 use Rattle.limits.proofs.Configs.{role_by_state}
 use Rattle.emission.specs.Draft.{Word, fixed, jump, jump_zero, Draft, Definition, words_of, here}
@@ -207,23 +212,23 @@ role_of AfterOperand o = refl
 role_of Group o = refl
 
 -- the use of a token that a translator takes is what its current state says
-use_is : (y : Layout) (before after : List Token) (t : Token) (s : Return) (k : List Return) (d : Draft) (z : Translator) →
-    translated y (reverse before) ≡ some (translator (s ∷ k) d) → draft_step y (translator (s ∷ k) d) t ≡ some z →
-    use_of before t after ≡ use_by (role_at s.state (before_of after)) t
-use_is y before after (token.name n) s k d z e f =
-    let c = text_shown y (reverse before) s k d e in
+use_is : (y : Layout) (past rest : List Token) (t : Token) (s : Return) (k : List Return) (d : Draft) (z : Translator) →
+    translated y (reverse past) ≡ some (translator (s ∷ k) d) → draft_step y (translator (s ∷ k) d) t ≡ some z →
+    use_of past t rest ≡ use_by (role_at s.state (before_of rest)) t
+use_is y past rest (token.name n) s k d z e f =
+    let c = text_shown y (reverse past) s k d e in
     let g : control (s ∷ k) ≡ c.0 ∷ control k = ap (λ z. z ++ control k) c.1 in
-    let q : reach (reverse before) ≡ some (c.0 ∷ control k) = sym (control_reach y (reverse before)) ∙ ap (option.map control_in) e ∙ ap (λ (l : List Recognised). some l) g in
+    let q : reach (reverse past) ≡ some (c.0 ∷ control k) = sym (control_reach y (reverse past)) ∙ ap (option.map control_in) e ∙ ap (λ (l : List Recognised). some l) g in
     let v : stack_step (c.0 ∷ control k) (token.name n) ≡ some (control_in z) =
     ap (λ z. stack_step z (token.name n)) (sym g) ∙ sym (control_step y (translator (s ∷ k) d) (token.name n)) ∙ ap (option.map control_in) f in
-    let x = role_by_state (reverse before) c.0 (control k) (control_in z) n after q v in
-    let r : state_role c.0 (before_of after) ≡ role_at s.state (before_of after) =
-    subst (λ (l : List Recognised). RoleOf l (before_of after) (role_at s.state (before_of after))) c.1 (role_of s.state (before_of after)) in
-    ap (λ (b : List Token). some (made (name_role b after) n)) (sym (reverse-reverse before)) ∙ ap (λ (v : Role). some (made v n)) (x ∙ r)
-use_is y before after (token.number n) s k d z e f = refl
-use_is y before after (keyword j) s k d z e f = refl
-use_is y before after (sign j) s k d z e f = refl
-use_is y before after (token.other b) s k d z e f = refl
+    let x = role_by_state (reverse past) c.0 (control k) (control_in z) n rest q v in
+    let r : state_role c.0 (before_of rest) ≡ role_at s.state (before_of rest) =
+    subst (λ (l : List Recognised). RoleOf l (before_of rest) (role_at s.state (before_of rest))) c.1 (role_of s.state (before_of rest)) in
+    ap (λ (b : List Token). some (made (name_role b rest) n)) (sym (reverse-reverse past)) ∙ ap (λ (v : Role). some (made v n)) (x ∙ r)
+use_is y past rest (token.number n) s k d z e f = refl
+use_is y past rest (keyword j) s k d z e f = refl
+use_is y past rest (sign j) s k d z e f = refl
+use_is y past rest (token.other b) s k d z e f = refl
 
 -- The IFs that are open where one more begins.
 
@@ -429,6 +434,142 @@ no_form_left past rest c ifs t o h f i =
     so : (o : Option Use) → (listed_by o ≡ true → c.names < list_limit) → used_so (λ r s. is_listed r && leb list_limit (names past)) o ≡ false
     so none g = refl
     so (some u) g = both_not (is_listed u.role) list_limit (names past) (λ e. let z = g e in let v = h.names_are in omega arith)
+
+-- The name that is kept after GO TO.
+
+abbrev IsNamed : List Token → Type 0
+IsNamed [] = ⊥
+IsNamed (t ∷ b) = is_name t ≡ true
+
+abbrev Named : List Token → List Return → Type 0
+Named b [] = Unit {0}
+Named b (r ∷ k) = r.state ≡ ToName → IsNamed b
+
+named : (y : Layout) (c : Config) → Named (past_of c) (image y c).stack
+named y (start k) = λ e. cc
+named y (labelling n k) = λ e. cc
+named y (let_word k) = λ e. cc
+named y (let_name n k) = λ e. cc
+named y (go_word k) = λ e. cc
+named y (to_word k) = λ e. cc
+named y (to_name n k) = λ e. refl
+named y (of_word n k) = λ e. cc
+named y (of_names n ns k) = λ e. cc
+named y (of_comma n ns k) = λ e. cc
+named y (read_word k) = λ e. cc
+named y (read_names ns k) = λ e. cc
+named y (read_comma ns k) = λ e. cc
+named y (print_word k) = λ e. cc
+named y (operand f k) = λ e. cc
+named y (after f v k) = λ e. cc
+named y (done cs) = tt
+
+abbrev top_state : List Return → State
+top_state [] = Next
+top_state (r ∷ k) = r.state
+
+-- only the state after TO keeps a name
+abbrev KeepsName : State → Entry → Type 0
+KeepsName s e = (a : ℕ) (k : List Return) → top_state (all_entered a e.states ++ k) ≡ ToName → (s ≡ ToWord) × (e ≡ to KeepName ToName)
+
+keeps_name : (s : State) (n : Name) → Entered (KeepsName s) (choose (table s) (token.name n))
+keeps_name Next n = tt
+keeps_name Start n = λ a k e. cc
+keeps_name Label n = tt
+keeps_name LetWord n = λ a k e. cc
+keeps_name LetName n = tt
+keeps_name LetEnd n = tt
+keeps_name GoWord n = tt
+keeps_name ToWord n = λ a k e. (refl, refl)
+keeps_name ToName n = tt
+keeps_name OfWord n = λ a k e. cc
+keeps_name OfNames n = tt
+keeps_name OfComma n = λ a k e. cc
+keeps_name ReadWord n = λ a k e. cc
+keeps_name ReadNames n = tt
+keeps_name ReadComma n = λ a k e. cc
+keeps_name PrintWord n = λ a k e. cc
+keeps_name PrintList n = tt
+keeps_name LeftSide n = tt
+keeps_name RightSide n = tt
+keeps_name ThenPart n = tt
+keeps_name ElsePart n = tt
+keeps_name Operand n = λ a k e. cc
+keeps_name AfterOperand n = tt
+keeps_name Group n = tt
+
+kept_entry : (t : Token) (s : State) (e : Entry) (a : ℕ) (k : List Return) → is_name t ≡ true → (is_name t ≡ true → move s t ≡ enter e) → top_state (all_entered a e.states ++ k) ≡ ToName →
+    (s ≡ ToWord) × (e ≡ to KeepName ToName)
+kept_entry (token.name n) s e a k i f g = subst (Entered (KeepsName s)) (entry_of s (token.name n) e (f refl)) (keeps_name s n) a k g
+kept_entry (token.number n) s e a k i f g = absurd (false≢true i)
+kept_entry (keyword j) s e a k i f g = absurd (false≢true i)
+kept_entry (sign j) s e a k i f g = absurd (false≢true i)
+kept_entry (token.other b) s e a k i f g = absurd (false≢true i)
+
+-- it is a variable if OF comes next, and else a label
+kept_means : (number : Name → ℕ) (y : Layout) (t : Token) (o : Bool) (r : ℕ) → is_name t ≡ true → UseMeans number y (use_by (role_at ToWord o) t) r →
+    (o ≡ true → r ≡ y.variable_cell (spelling t)) × (o ≡ false → r ≡ number (spelling t))
+kept_means number y (token.name n) true r i m = (λ e. m, λ e. absurd (false≢true (sym e)))
+kept_means number y (token.name n) false r i m = (λ e. absurd (false≢true e), λ e. m)
+kept_means number y (token.number n) o r i m = absurd (false≢true i)
+kept_means number y (keyword j) o r i m = absurd (false≢true i)
+kept_means number y (sign j) o r i m = absurd (false≢true i)
+kept_means number y (token.other b) o r i m = absurd (false≢true i)
+
+known_newest : (w : Words) (k : Key) (u : Use) (us : List Use) → key w u ≡ k → known w k (u ∷ us) ≡ true
+known_newest w k u us e = or_left (same_key k (key w u)) (known w k us) (same_key_complete k (key w u) (sym e))
+
+kept_known : (w : Words) (t : Token) (us : List Use) → is_name t ≡ true → known w (label_key (spelling t)) (with_use (use_by (role_at ToWord false) t) us) ≡ true
+kept_known w (token.name n) us i = known_newest w (label_key n) (made target n) us refl
+kept_known w (token.number n) us i = absurd (false≢true i)
+kept_known w (keyword j) us i = absurd (false≢true i)
+kept_known w (sign j) us i = absurd (false≢true i)
+kept_known w (token.other b) us i = absurd (false≢true i)
+
+-- What is told to the table.
+
+told_holds : (w : Words) (text : List ℕ) (past : List Placed) (p : Placed) (ps : List Placed) (o : Option Use) (a b : Table) (r : ℕ) → Told w text past p ps o a b r →
+    Holds w a (mentions w text past (p ∷ ps)) → Holds w b (with_mention p.offset (label_at w text (tokens_of past)) o (mentions w text past (p ∷ ps)))
+told_holds w text past p ps none a b r e h = subst (λ (z : Table). Holds w z (mentions w text past (p ∷ ps))) (sym e) h
+told_holds w text past p ps (some u) a b r e h = e.0
+
+-- Definitions.
+
+abbrev defines : Action → Bool
+defines Nothing = false
+defines DefineLabel = true
+defines SetTarget = false
+defines StoreTarget = false
+defines KeepName = false
+defines JumpToName = false
+defines LoadName = false
+defines FirstLabel = false
+defines FurtherLabel = false
+defines ReadName = false
+defines SkipLine = false
+defines PrintValue = false
+defines EndLine = false
+defines PushVariable = false
+defines PushNumber = false
+defines OpenGroup = false
+defines CloseGroup = false
+defines (Operate o) = false
+defines EndExpression = false
+defines (Compare x) = false
+defines BeginThen = false
+defines BeginElse = false
+defines EndElse = false
+defines EndProgram = false
+
+module _ (y : Layout) where
+  others_define_none : (b : Action) (a : ℕ) (n : Name) (d : Draft) → defines b ≡ false → (perform y b a n d).definitions ≡ d.definitions
+  others_define_none b a n d e = grind arith
+
+plain_defines : (b : Action) → plain_action b ≡ true → defines b ≡ false
+plain_defines b e = grind arith
+
+returning_defines : (s : State) (b : Action) → returning s ≡ some b → defines b ≡ false
+returning_defines s b e = grind arith
 
 -- The reader.
 
