@@ -1,5 +1,5 @@
 -- One token without refusal: the reader goes on.
-use Rattle.std.proofs.Common.{◌≡◌, ℕ, suc, pred, ◌+◌, ◌-◌, ◌<◌, ◌≤◌, min, Bool, true, false, cond, ◌&&◌, ◌||◌, ◌⊎◌, List, [], ◌∷◌, ◌++◌, map, reverse, length, leb, sym, refl, ap, ◌∙◌, subst, inl, inr, arith}
+use Rattle.std.proofs.Common.{◌≡◌, ℕ, zero, suc, pred, eqb, ◌+◌, ◌-◌, ◌<◌, ◌≤◌, min, Bool, true, false, cond, ◌&&◌, ◌||◌, ◌⊎◌, List, [], ◌∷◌, ◌++◌, map, reverse, length, leb, sym, refl, ap, ◌∙◌, subst, inl, inr, arith}
 use mathlib.Core.List.{reverse_aux}
 use mathlib.Core.Option as option
 use mathlib.Core.Option.{Option, none, some, none-ne-some, some-injective}
@@ -44,8 +44,12 @@ use Rattle.emission.specs.Table.{to}
 use Rattle.emission.proofs.Image.{image}
 use Rattle.limits.specs.States.{state_role}
 use Rattle.limits.proofs.Configs.{role_by_state}
-use Rattle.emission.specs.Draft.{Word, fixed, jump, jump_zero, Draft, Definition, words_of, here}
-use Rattle.emission.specs.Actions.{perform}
+use Rattle.emission.specs.Draft.{Word, fixed, jump, jump_zero, Mark, pending, parenthesis, work, Draft, Definition, words_of, here, patch, operation, reduce, reduced, any, binds, loaded, left_off}
+use Rattle.trees.specs.declared.operator.Operator.{Operator}
+use Rattle.trees.specs.declared.operator.Operator.TheVariants.{Plus, Minus, Times, Over}
+use Rattle.runs.specs.declared.instruction.Instruction.TheVariants.{Bru}
+use Rattle.runs.specs.Code.{first_temporary}
+use Rattle.emission.specs.Actions.{operate, perform}
 use Rattle.emission.specs.Control.{control_of, control, control_in}
 use Rattle.emission.specs.Returns.{comes_back, AllBelow}
 use Rattle.emission.proofs.Controls.{control_step, control_reach}
@@ -66,7 +70,7 @@ use Rattle.emission.proofs.Tables.{by_class}
 use Rattle.assembly.specs.Plans.{Plan, Rooms, acted}
 use Rattle.reading.specs.declared.returns.Return.{Return as Coded}
 use Rattle.reading.specs.Steps.{return_code, Found, found, after_move, leaving, pushed_all, Kept, Takes, Refuses}
-use Rattle.reading.proofs.Leaving.{entry_of, no_entry, leaves}
+use Rattle.reading.proofs.Leaving.{entry_of, no_entry, of_left, not_below, leaves}
 use Rattle.reading.specs.declared.counts.Counts.{Counts}
 use Rattle.reading.specs.Counting.{counted, form_refusal, Counted}
 
@@ -570,6 +574,369 @@ plain_defines b e = grind arith
 
 returning_defines : (s : State) (b : Action) → returning s ≡ some b → defines b ≡ false
 returning_defines s b e = grind arith
+
+-- Steps: what each action at a token keeps.
+
+module _ (y : Layout) (t : Token) (Q : Draft → Type 0)
+    (returned : (s : State) (b : Action) → comes_back s ≡ true → returning s ≡ some b → (a : ℕ) (d : Draft) → Q d → Q (perform y b a [] d))
+    (taken : (s : State) (e : Entry) → move s t ≡ enter e → (a : ℕ) (d : Draft) → Q d → Q (perform y e.action a (spelling t) d)) where
+  keeps_by : (s : Return) (k : List Return) (d : Draft) (z : Translator) → ((b : Action) → move s.state t ≡ leave b → Q d → Q (perform y b s.address [] d)) →
+      ((x : Draft) → draft_step y (translator k x) t ≡ some z → Q x → Q z.made) → draft_step y (translator (s ∷ k) d) t ≡ some z → Q d → Q z.made
+  keeps_by s k d z top ih e q = go (move s.state t) refl
+    where
+      go : (m : Move) → move s.state t ≡ m → Q z.made
+      go refuse f = absurd (none-ne-some z (sym (stepping.refused y s k d t f) ∙ e))
+      go (leave b) f = ih (perform y b s.address [] d) (sym (stepping.left y s k d t b f) ∙ e) (top b f q)
+      go (enter v) f =
+          subst (λ (u : Translator). Q u.made) (some-injective (follow y v s.address (spelling t) k d) z (sym (stepping.entered y s k d t v f) ∙ e)) (taken s.state v f s.address d q)
+
+  keeps_below : (k : List Return) → AllBelow k → (d : Draft) (z : Translator) → draft_step y (translator k d) t ≡ some z → Q d → Q z.made
+  keeps_below [] below d z e q = absurd (none-ne-some z e)
+  keeps_below (s ∷ k) below d z e q =
+      keeps_by s k d z (λ b f. returned s.state b below.0 (no_entry s.state t b f).1 s.address d) (λ x. keeps_below k below.1 x z) e q
+
+  keeps : (s : Return) (k : List Return) → AllBelow k → (d : Draft) (z : Translator) → ((b : Action) → move s.state t ≡ leave b → Q d → Q (perform y b s.address [] d)) →
+      draft_step y (translator (s ∷ k) d) t ≡ some z → Q d → Q z.made
+  keeps s k below d z top e q = keeps_by s k d z top (λ x. keeps_below k below x z) e q
+
+-- only a name or a number may change the definitions
+same_definitions : (y : Layout) (t : Token) (s : Return) (k : List Return) (d : Draft) (z : Translator) → (is_name t || is_number t) ≡ false → AllBelow k →
+    draft_step y (translator (s ∷ k) d) t ≡ some z → z.made.definitions ≡ d.definitions
+same_definitions y t s k d z n below e =
+    keeps y t (λ (x : Draft). x.definitions ≡ d.definitions)
+    (λ q b c r a x h. others_define_none y b a [] x (returning_defines q b r) ∙ h)
+    (λ q v f a x h. others_define_none y v.action a (spelling t) x (plain_defines v.action (plain_entry t v n q f)) ∙ h)
+    s k below d z (λ b f h. others_define_none y b s.address [] d (returning_defines s.state b (no_entry s.state t b f).1) ∙ h) e refl
+
+-- Definitions and mentions.
+
+module _ (y : Layout) (d : Draft) (place address : ℕ) (seen : List Mention) (m : Matches d.definitions seen) (at : address ≡ min (here d) code_limit) (n : Name) (a : ℕ) where
+  abbrev mentioned : Role → Mention
+  mentioned r = record { used = made r n; place = place; address = address }
+
+  or_variable : (o : Bool) → is_definition (cond o variable_use target) ≡ false
+  or_variable true = refl
+  or_variable false = refl
+
+  name_matches : (s : State) (o : Bool) → Entered (λ e. Matches (perform y e.action a n d).definitions (mentioned (role_at s o) ∷ seen)) (choose (table s) (token.name n))
+  name_matches Next o = tt
+  name_matches Start o = both (mentioned definition) (here d) refl at m
+  name_matches Label o = tt
+  name_matches LetWord o = another_use (mentioned variable_use) refl m
+  name_matches LetName o = tt
+  name_matches LetEnd o = tt
+  name_matches GoWord o = tt
+  name_matches ToWord o = another_use (mentioned (cond o variable_use target)) (or_variable o) m
+  name_matches ToName o = tt
+  name_matches OfWord o = another_use (mentioned listed) refl m
+  name_matches OfNames o = tt
+  name_matches OfComma o = another_use (mentioned listed) refl m
+  name_matches ReadWord o = another_use (mentioned variable_use) refl m
+  name_matches ReadNames o = tt
+  name_matches ReadComma o = another_use (mentioned variable_use) refl m
+  name_matches PrintWord o = another_use (mentioned variable_use) refl m
+  name_matches PrintList o = tt
+  name_matches LeftSide o = tt
+  name_matches RightSide o = tt
+  name_matches ThenPart o = tt
+  name_matches ElsePart o = tt
+  name_matches Operand o = another_use (mentioned variable_use) refl m
+  name_matches AfterOperand o = tt
+  name_matches Group o = tt
+
+  number_matches : (s : State) → Entered (λ e. Matches (perform y e.action a n d).definitions (mentioned number_use ∷ seen)) (choose (table s) (token.number n))
+  number_matches Next = tt
+  number_matches Start = tt
+  number_matches Label = tt
+  number_matches LetWord = tt
+  number_matches LetName = tt
+  number_matches LetEnd = tt
+  number_matches GoWord = tt
+  number_matches ToWord = tt
+  number_matches ToName = tt
+  number_matches OfWord = tt
+  number_matches OfNames = tt
+  number_matches OfComma = tt
+  number_matches ReadWord = tt
+  number_matches ReadNames = tt
+  number_matches ReadComma = tt
+  number_matches PrintWord = another_use (mentioned number_use) refl m
+  number_matches PrintList = tt
+  number_matches LeftSide = tt
+  number_matches RightSide = tt
+  number_matches ThenPart = tt
+  number_matches ElsePart = tt
+  number_matches Operand = another_use (mentioned number_use) refl m
+  number_matches AfterOperand = tt
+  number_matches Group = tt
+
+module _ (y : Layout) (d after_left : Draft) (place address : ℕ) (seen : List Mention) (m : Matches d.definitions seen) (at : address ≡ min (here d) code_limit) (s : State) (o : Bool) (e : Entry) (a : ℕ) where
+  matches_at : (t : Token) → ((is_name t || is_number t) ≡ true → (move s t ≡ enter e) × (after_left ≡ d)) →
+      ((is_name t || is_number t) ≡ false → (perform y e.action a (spelling t) after_left).definitions ≡ d.definitions) →
+      Matches (perform y e.action a (spelling t) after_left).definitions (with_mention place address (use_by (role_at s o) t) seen)
+  matches_at (token.name n) f g =
+      subst (λ (x : Draft). Matches (perform y e.action a n x).definitions (record { used = made (role_at s o) n; place = place; address = address } ∷ seen)) (sym (f refl).1)
+      (subst (Entered (λ v. Matches (perform y v.action a n d).definitions (record { used = made (role_at s o) n; place = place; address = address } ∷ seen)))
+      (entry_of s (token.name n) e (f refl).0) (name_matches y d place address seen m at n a s o))
+  matches_at (token.number n) f g =
+      subst (λ (x : Draft). Matches (perform y e.action a n x).definitions (record { used = made number_use n; place = place; address = address } ∷ seen)) (sym (f refl).1)
+      (subst (Entered (λ v. Matches (perform y v.action a n d).definitions (record { used = made number_use n; place = place; address = address } ∷ seen)))
+      (entry_of s (token.number n) e (f refl).0) (number_matches y d place address seen m at n a s))
+  matches_at (keyword j) f g = subst (λ (ds : List Definition). Matches ds seen) (sym (g refl)) m
+  matches_at (sign j) f g = subst (λ (ds : List Definition). Matches ds seen) (sym (g refl)) m
+  matches_at (token.other b) f g = subst (λ (ds : List Definition). Matches ds seen) (sym (g refl)) m
+
+-- The labels of jumps.
+
+module _ (w : Words) (us : List Use) where
+  words_behind : (v : Word) (ws : List Word) → Labelled w us (v ∷ ws) → Labelled w us ws
+  words_behind (fixed i) ws h = h
+  words_behind (jump l) ws h = h.1
+  words_behind (jump_zero l) ws h = h.1
+
+  word_before : (v : Word) (ws vs : List Word) → Labelled w us (v ∷ ws) → Labelled w us vs → Labelled w us (v ∷ vs)
+  word_before (fixed i) ws vs h g = g
+  word_before (jump l) ws vs h g = (h.0, g)
+  word_before (jump_zero l) ws vs h g = (h.0, g)
+
+  labelled_patch : (j t : ℕ) (ws : List Word) → Labelled w us ws → Labelled w us (patch j t ws)
+  unfolding patch
+  labelled_patch j t [] h = h
+  labelled_patch j t (v ∷ ws) h = go (eqb (length ws) j) (labelled_patch j t ws (words_behind v ws h))
+    where
+      go : (b : Bool) → Labelled w us (patch j t ws) → Labelled w us (cond b (fixed (Bru t) ∷ ws) (v ∷ patch j t ws))
+      go true ih = words_behind v ws h
+      go false ih = word_before v ws (patch j t ws) h ih
+
+  labelled_reduce : (p : Operator → Bool) (ms : List Mark) (cs : List ℕ) (n : ℕ) (ws : List Word) → Labelled w us ws → Labelled w us (reduce p ms cs n ws).words
+  labelled_reduce p [] cs n ws h = h
+  labelled_reduce p (parenthesis ∷ ms) cs n ws h = h
+  labelled_reduce p (pending o ∷ ms) [] n ws h = h
+  labelled_reduce p (pending o ∷ ms) (r ∷ []) n ws h = h
+  labelled_reduce p (pending o ∷ ms) (r ∷ l ∷ cs) n ws h = go (p o) (labelled_reduce p ms ((first_temporary + n) ∷ cs) (suc n) (operation o l r n ws) h)
+    where
+      go : (b : Bool) → Labelled w us (reduce p ms ((first_temporary + n) ∷ cs) (suc n) (operation o l r n ws)).words →
+          Labelled w us (cond b (reduce p ms ((first_temporary + n) ∷ cs) (suc n) (operation o l r n ws)) (work (pending o ∷ ms) (r ∷ l ∷ cs) n ws)).words
+      go true ih = ih
+      go false ih = h
+
+  labelled_loaded : (cs : List ℕ) (n : ℕ) (ws : List Word) → Labelled w us ws → Labelled w us (loaded cs n ws)
+  labelled_loaded [] n ws h = h
+  labelled_loaded (c ∷ cs) zero ws h = h
+  labelled_loaded (c ∷ cs) (suc n) ws h = h
+
+  labelled_off : (ms : List Mark) (cs : List ℕ) (n : ℕ) (ws : List Word) → Labelled w us ws → Labelled w us (left_off ms cs n ws).words
+  labelled_off [] cs n ws h = labelled_loaded cs n ws h
+  labelled_off (parenthesis ∷ ms) cs n ws h = h
+  labelled_off (pending o ∷ ms) cs n ws h = h
+
+  -- what an action must know, so that the labels of its jumps are among the uses
+  abbrev Needs : Action → Name → Draft → Type 0
+  Needs Nothing n d = Unit {0}
+  Needs DefineLabel n d = Unit {0}
+  Needs SetTarget n d = Unit {0}
+  Needs StoreTarget n d = Unit {0}
+  Needs KeepName n d = Unit {0}
+  Needs JumpToName n d = known w (label_key d.kept) us ≡ true
+  Needs LoadName n d = Unit {0}
+  Needs FirstLabel n d = known w (label_key n) us ≡ true
+  Needs FurtherLabel n d = known w (label_key n) us ≡ true
+  Needs ReadName n d = Unit {0}
+  Needs SkipLine n d = Unit {0}
+  Needs PrintValue n d = Unit {0}
+  Needs EndLine n d = Unit {0}
+  Needs PushVariable n d = Unit {0}
+  Needs PushNumber n d = Unit {0}
+  Needs OpenGroup n d = Unit {0}
+  Needs CloseGroup n d = Unit {0}
+  Needs (Operate o) n d = Unit {0}
+  Needs EndExpression n d = Unit {0}
+  Needs (Compare x) n d = Unit {0}
+  Needs BeginThen n d = Unit {0}
+  Needs BeginElse n d = Unit {0}
+  Needs EndElse n d = Unit {0}
+  Needs EndProgram n d = Unit {0}
+
+  module _ (y : Layout) where
+    labelled_operate : (o : Operator) (d : Draft) → Labelled w us (words_of d) → Labelled w us (words_of (operate o d))
+    labelled_operate Plus d h = labelled_reduce any d.making.marks d.making.cells d.making.temporaries d.making.words h
+    labelled_operate Minus d h = labelled_reduce any d.making.marks d.making.cells d.making.temporaries d.making.words h
+    labelled_operate Times d h = labelled_reduce binds d.making.marks d.making.cells d.making.temporaries d.making.words h
+    labelled_operate Over d h = labelled_reduce binds d.making.marks d.making.cells d.making.temporaries d.making.words h
+
+    labelled_perform : (b : Action) (a : ℕ) (n : Name) (d : Draft) → Needs b n d → Labelled w us (words_of d) → Labelled w us (words_of (perform y b a n d))
+    labelled_perform Nothing a n d m h = h
+    labelled_perform DefineLabel a n d m h = h
+    labelled_perform SetTarget a n d m h = h
+    labelled_perform StoreTarget a n d m h = h
+    labelled_perform KeepName a n d m h = h
+    labelled_perform JumpToName a n d m h = (m, h)
+    labelled_perform LoadName a n d m h = h
+    labelled_perform FirstLabel a n d m h = (m, h)
+    labelled_perform FurtherLabel a n d m h = (m, h)
+    labelled_perform ReadName a n d m h = h
+    labelled_perform SkipLine a n d m h = h
+    labelled_perform PrintValue a n d m h = h
+    labelled_perform EndLine a n d m h = h
+    labelled_perform PushVariable a n d m h = h
+    labelled_perform PushNumber a n d m h = h
+    labelled_perform OpenGroup a n d m h = h
+    labelled_perform CloseGroup a n d m h = h
+    labelled_perform (Operate o) a n d m h = labelled_operate o d h
+    labelled_perform EndExpression a n d m h = 
+        let v = reduced any d.making in
+        labelled_off v.marks v.cells v.temporaries v.words (labelled_reduce any d.making.marks d.making.cells d.making.temporaries d.making.words h)
+    labelled_perform (Compare x) a n d m h = h
+    labelled_perform BeginThen a n d m h = h
+    labelled_perform BeginElse a n d m h = labelled_patch (pred a) (suc (here d)) (fixed (Bru 0) ∷ words_of d) h
+    labelled_perform EndElse a n d m h = labelled_patch (pred a) (here d) (words_of d) h
+    labelled_perform EndProgram a n d m h = h
+
+  abbrev ReturnNeeds : Draft → Option Action → Type 0
+  ReturnNeeds d none = Unit {0}
+  ReturnNeeds d (some b) = Needs b [] d
+
+  return_needs : (d : Draft) (s : State) → (s ≡ ToName → known w (label_key d.kept) us ≡ true) → ReturnNeeds d (returning s)
+  return_needs d Next l = tt
+  return_needs d Start l = tt
+  return_needs d Label l = tt
+  return_needs d LetWord l = tt
+  return_needs d LetName l = tt
+  return_needs d LetEnd l = tt
+  return_needs d GoWord l = tt
+  return_needs d ToWord l = tt
+  return_needs d ToName l = l refl
+  return_needs d OfWord l = tt
+  return_needs d OfNames l = tt
+  return_needs d OfComma l = tt
+  return_needs d ReadWord l = tt
+  return_needs d ReadNames l = tt
+  return_needs d ReadComma l = tt
+  return_needs d PrintWord l = tt
+  return_needs d PrintList l = tt
+  return_needs d LeftSide l = tt
+  return_needs d RightSide l = tt
+  return_needs d ThenPart l = tt
+  return_needs d ElsePart l = tt
+  return_needs d Operand l = tt
+  return_needs d AfterOperand l = tt
+  return_needs d Group l = tt
+
+  plain_needs : (d : Draft) (n : Name) (b : Action) → plain_action b ≡ true → Needs b n d
+  plain_needs d n Nothing e = tt
+  plain_needs d n DefineLabel e = tt
+  plain_needs d n SetTarget e = tt
+  plain_needs d n StoreTarget e = tt
+  plain_needs d n KeepName e = tt
+  plain_needs d n JumpToName e = absurd (false≢true e)
+  plain_needs d n LoadName e = tt
+  plain_needs d n FirstLabel e = absurd (false≢true e)
+  plain_needs d n FurtherLabel e = absurd (false≢true e)
+  plain_needs d n ReadName e = tt
+  plain_needs d n SkipLine e = tt
+  plain_needs d n PrintValue e = tt
+  plain_needs d n EndLine e = tt
+  plain_needs d n PushVariable e = tt
+  plain_needs d n PushNumber e = tt
+  plain_needs d n OpenGroup e = tt
+  plain_needs d n CloseGroup e = tt
+  plain_needs d n (Operate o) e = tt
+  plain_needs d n EndExpression e = tt
+  plain_needs d n (Compare x) e = tt
+  plain_needs d n BeginThen e = tt
+  plain_needs d n BeginElse e = tt
+  plain_needs d n EndElse e = tt
+  plain_needs d n EndProgram e = tt
+
+module _ (w : Words) (us : List Use) (d : Draft) (n : Name) where
+  name_needs : (s : State) (o : Bool) → Entered (λ e. Needs w (made (role_at s o) n ∷ us) e.action n d) (choose (table s) (token.name n))
+  name_needs Next o = tt
+  name_needs Start o = tt
+  name_needs Label o = tt
+  name_needs LetWord o = tt
+  name_needs LetName o = tt
+  name_needs LetEnd o = tt
+  name_needs GoWord o = tt
+  name_needs ToWord o = tt
+  name_needs ToName o = tt
+  name_needs OfWord o = known_newest w (label_key n) (made listed n) us refl
+  name_needs OfNames o = tt
+  name_needs OfComma o = known_newest w (label_key n) (made listed n) us refl
+  name_needs ReadWord o = tt
+  name_needs ReadNames o = tt
+  name_needs ReadComma o = tt
+  name_needs PrintWord o = tt
+  name_needs PrintList o = tt
+  name_needs LeftSide o = tt
+  name_needs RightSide o = tt
+  name_needs ThenPart o = tt
+  name_needs ElsePart o = tt
+  name_needs Operand o = tt
+  name_needs AfterOperand o = tt
+  name_needs Group o = tt
+
+  number_needs : (s : State) → Entered (λ e. Needs w (made number_use n ∷ us) e.action n d) (choose (table s) (token.number n))
+  number_needs Next = tt
+  number_needs Start = tt
+  number_needs Label = tt
+  number_needs LetWord = tt
+  number_needs LetName = tt
+  number_needs LetEnd = tt
+  number_needs GoWord = tt
+  number_needs ToWord = tt
+  number_needs ToName = tt
+  number_needs OfWord = tt
+  number_needs OfNames = tt
+  number_needs OfComma = tt
+  number_needs ReadWord = tt
+  number_needs ReadNames = tt
+  number_needs ReadComma = tt
+  number_needs PrintWord = tt
+  number_needs PrintList = tt
+  number_needs LeftSide = tt
+  number_needs RightSide = tt
+  number_needs ThenPart = tt
+  number_needs ElsePart = tt
+  number_needs Operand = tt
+  number_needs AfterOperand = tt
+  number_needs Group = tt
+
+-- a use more
+known_more : (w : Words) (k : Key) (o : Option Use) (us : List Use) → known w k us ≡ true → known w k (with_use o us) ≡ true
+known_more w k none us h = h
+known_more w k (some u) us h = or_right (same_key k (key w u)) (known w k us) h
+
+labelled_more : (w : Words) (o : Option Use) (us : List Use) (ws : List Word) → Labelled w us ws → Labelled w (with_use o us) ws
+labelled_more w o us [] h = h
+labelled_more w o us (fixed i ∷ ws) h = labelled_more w o us ws h
+labelled_more w o us (jump l ∷ ws) h = (known_more w (label_key l) o us h.0, labelled_more w o us ws h.1)
+labelled_more w o us (jump_zero l ∷ ws) h = (known_more w (label_key l) o us h.0, labelled_more w o us ws h.1)
+
+-- at a keyword or a sign
+same_labelled : (w : Words) (us : List Use) (y : Layout) (t : Token) (s : Return) (k : List Return) (d : Draft) (z : Translator) → (is_name t || is_number t) ≡ false → AllBelow k →
+    (s.state ≡ ToName → is (keyword Of) t ≡ false → known w (label_key d.kept) us ≡ true) →
+    draft_step y (translator (s ∷ k) d) t ≡ some z → Labelled w us (words_of d) → Labelled w us (words_of z.made)
+same_labelled w us y t s k d z n below l e =
+    keeps y t (λ (x : Draft). Labelled w us (words_of x))
+    (λ q b c r a x. labelled_perform w us y b a [] x (subst (ReturnNeeds w us x) r (return_needs w us x q (λ f. absurd (not_below q c f)))))
+    (λ q v f a x. labelled_perform w us y v.action a (spelling t) x (plain_needs w us x (spelling t) v.action (plain_entry t v n q f)))
+    s k below d z (λ b f. labelled_perform w us y b s.address [] d (subst (ReturnNeeds w us d) (no_entry s.state t b f).1 (return_needs w us d s.state (λ g. l g (of_left s.state t b g f))))) e
+
+module _ (w : Words) (us : List Use) (y : Layout) (d after_left : Draft) (s : State) (o : Bool) (e : Entry) (a : ℕ) where
+  labelled_at : (t : Token) → Labelled w (with_use (use_by (role_at s o) t) us) (words_of d) → ((is_name t || is_number t) ≡ true → (move s t ≡ enter e) × (after_left ≡ d)) →
+      ((is_name t || is_number t) ≡ false → Labelled w (with_use (use_by (role_at s o) t) us) (words_of (perform y e.action a (spelling t) after_left))) →
+      Labelled w (with_use (use_by (role_at s o) t) us) (words_of (perform y e.action a (spelling t) after_left))
+  labelled_at (token.name n) h f g =
+      subst (λ (x : Draft). Labelled w (made (role_at s o) n ∷ us) (words_of (perform y e.action a n x))) (sym (f refl).1)
+      (labelled_perform w (made (role_at s o) n ∷ us) y e.action a n d
+      (subst (Entered (λ v. Needs w (made (role_at s o) n ∷ us) v.action n d)) (entry_of s (token.name n) e (f refl).0) (name_needs w us d n s o)) h)
+  labelled_at (token.number n) h f g =
+      subst (λ (x : Draft). Labelled w (made number_use n ∷ us) (words_of (perform y e.action a n x))) (sym (f refl).1)
+      (labelled_perform w (made number_use n ∷ us) y e.action a n d
+      (subst (Entered (λ v. Needs w (made number_use n ∷ us) v.action n d)) (entry_of s (token.number n) e (f refl).0) (number_needs w us d n s)) h)
+  labelled_at (keyword j) h f g = g refl
+  labelled_at (sign j) h f g = g refl
+  labelled_at (token.other b) h f g = g refl
 
 -- The reader.
 
