@@ -4,6 +4,7 @@ use mathlib.Core.List.{reverse_aux}
 use mathlib.Core.Option as option
 use mathlib.Core.Option.{Option, none, some, none-ne-some, some-injective}
 use lib.ListN.{length-map}
+use mathlib.Mathlib.Data.List.Basic.{map-reverse_aux}
 use Rattle.std.proofs.lemmas.Bool.{false≢true, leb-false, lt-leb, or_left, or_right, or_parts}
 use Rattle.std.proofs.lemmas.List.{reverse-reverse, reverse-append}
 use Rattle.std.specs.Prelude.{Some, None}
@@ -52,14 +53,15 @@ use Rattle.runs.specs.Code.{first_temporary}
 use Rattle.emission.specs.Actions.{operate, perform}
 use Rattle.emission.specs.Control.{control_of, control, control_in}
 use Rattle.emission.specs.Returns.{comes_back, AllBelow}
+use Rattle.emission.proofs.Pasts as pasts
 use Rattle.emission.proofs.Controls.{control_step, control_reach}
 use Rattle.emission.proofs.Waits.{text_shown}
 use Rattle.emission.proofs.Standing.{text_below, text_nested, further}
 use Rattle.emission.proofs.Stepping as stepping
 use Rattle.symbols.specs.declared.table.Table.{Table}
 use Rattle.assembly.specs.Drawn.{Drawn, Refers, Fits, Few}
-use Rattle.reading.specs.TokenLaws.{use_by, listed_by, Told}
-use Rattle.reading.specs.Reads.{role_at, current, room, return_room, cells_of, symbol_of, label_at, mentions, refused_first, KeptNext, KnownNext, Reads}
+use Rattle.reading.specs.TokenLaws.{use_by, listed_by, Told, at_token, use_here, ifs_here}
+use Rattle.reading.specs.Reads.{role_at, current, room, return_room, all_tokens, words_by, cells_of, symbol_of, label_at, mentions, refused_first, KeptNext, KnownNext, Reads}
 use Rattle.emission.specs.declared.action.Action.{Action}
 use Rattle.emission.specs.declared.action.Action.TheVariants.{Nothing, DefineLabel, SetTarget, StoreTarget, KeepName, JumpToName, LoadName, FirstLabel, FurtherLabel, ReadName, SkipLine, PrintValue, EndLine, PushVariable, PushNumber, OpenGroup, CloseGroup, Operate, EndExpression, Compare, BeginThen, BeginElse, EndElse, EndProgram}
 use Rattle.emission.specs.declared.state.State.{State}
@@ -70,6 +72,7 @@ use Rattle.emission.proofs.Tables.{by_class}
 use Rattle.assembly.specs.Plans.{Plan, Rooms, acted}
 use Rattle.reading.specs.declared.returns.Return.{Return as Coded}
 use Rattle.reading.specs.Steps.{return_code, Found, found, after_move, leaving, pushed_all, Kept, Takes, Refuses}
+use Rattle.reading.proofs.Staying.{stays}
 use Rattle.reading.proofs.Leaving.{entry_of, no_entry, of_left, not_below, leaves}
 use Rattle.reading.specs.declared.counts.Counts.{Counts}
 use Rattle.reading.specs.Counting.{counted, form_refusal, Counted}
@@ -938,6 +941,23 @@ module _ (w : Words) (us : List Use) (y : Layout) (d after_left : Draft) (s : St
   labelled_at (sign j) h f g = g refl
   labelled_at (token.other b) h f g = g refl
 
+kept_case : (w : Words) (text : List ℕ) (rest : List Token) (k : List Return) (d : Draft) (p : Plan) →
+    (top_state k ≡ ToName → (before_of rest ≡ true → p.kept ≡ (cells_of w text).variable_cell d.kept) × (before_of rest ≡ false → p.kept ≡ symbol_of w text d.kept)) →
+    KeptNext w text rest k d p
+kept_case w text rest [] d p f = tt
+kept_case w text [] (s ∷ k) d p f = tt
+kept_case w text (t ∷ rest) (s ∷ k) d p f = record { as_variable = λ a b. (f a).0 b; as_label = λ a b. (f a).1 b }
+
+known_case : (w : Words) (text : List ℕ) (rest : List Token) (k : List Return) (n : Name) (us : List Use) →
+    (top_state k ≡ ToName → before_of rest ≡ false → known w (label_key n) us ≡ true) → KnownNext w text rest k n us
+known_case w text rest [] n us f = tt
+known_case w text [] (s ∷ k) n us f = tt
+known_case w text (t ∷ rest) (s ∷ k) n us f = f
+
+is_named : (b : List Token) (t : Token) (k : List Return) → Named (t ∷ b) k → top_state k ≡ ToName → is_name t ≡ true
+is_named b t [] f e = cc
+is_named b t (r ∷ k) f e = f e
+
 -- The reader.
 
 module _ (w : Words) (text : List ℕ) (past : List Placed) (p : Placed) (ps : List Placed) (y : Plan) (k : List Coded) (c : Counts) (t : Table)
@@ -1057,3 +1077,125 @@ module _ (w : Words) (text : List ℕ) (past : List Placed) (p : Placed) (ps : L
             (λ j. or_fault (q j) (λ (v : List Recognised). or_else (refused (lowest (limit_checks w (tokens_of past) (p.token ∷ tokens_of ps))) p.offset) (pass w (length text) v (p.token ∷ tokens_of past) ps)) p.offset)
             ∙ ap (λ o. or_else (refused o p.offset) (pass w (length text) (control_in next) (p.token ∷ tokens_of past) ps)) l in
             sym m ∙ ap (λ (st : List Return). pass w (length text) (control st) (tokens_of past) (p ∷ ps)) (sym si) ∙ h.passes
+
+        -- what the token refers to, when the table was told
+        all_is : reverse_aux (p.token ∷ tokens_of past) (tokens_of ps) ≡ all_tokens w text
+        all_is = sym (map-reverse_aux (λ (q : Placed). q.token) past (p ∷ ps)) ∙ ap tokens_of h.whole
+
+        refers_to : (u : Use) → use_of (tokens_of past) p.token (tokens_of ps) ≡ some u →
+            reference w (u ∷ uses_of (mentions w text past (p ∷ ps))) u ≡ reference w (uses (all_tokens w text)) u
+        refers_to u e =
+            let v : uses_before (p.token ∷ tokens_of past) (tokens_of ps) ≡ u ∷ uses_of (mentions w text past (p ∷ ps)) = (λ j. with_use (e j) (sym same_mentions j)) in
+            ap (λ (us : List Use). reference w us u) (sym v)
+            ∙ sym (stays w (p.token ∷ tokens_of past) (tokens_of ps) u (ap (known w (key w u)) v ∙ known_newest w (key w u) u (uses_of (mentions w text past (p ∷ ps))) refl))
+            ∙ ap (λ (ts : List Token). reference w (uses ts) u) all_is
+
+        told_means : (o : Option Use) (b : Table) (r : ℕ) → use_of (tokens_of past) p.token (tokens_of ps) ≡ o → Told w text past p ps o t b r → UseMeans (symbol_of w text) (cells_of w text) o r
+        told_means none b r e m = tt
+        told_means (some u) b r e m = means_of w (all_tokens w text) u.role u.spelling r (m.1 ∙ refers_to u e)
+
+        holds_next : (b : Table) (r : ℕ) → Told w text past p ps used t b r → Holds w b (mentions w text (p ∷ past) ps)
+        holds_next b r m =
+            subst (λ (o : Option Use). Holds w b (with_mention p.offset (label_at w text (tokens_of past)) o (mentions w text past (p ∷ ps)))) (sym used_is)
+            (told_holds w text past p ps used t b r m h.holds)
+
+        matches_next : Matches after_token.definitions (mentions w text (p ∷ past) ps)
+        matches_next =
+            subst (λ (o : Option Use). Matches after_token.definitions (with_mention p.offset (label_at w text (tokens_of past)) o (mentions w text past (p ∷ ps)))) (sym used_is)
+            (matches_at (cells_of w text) d x.after p.offset (label_at w text (tokens_of past)) (mentions w text past (p ∷ ps)) h.matches
+            (ap (λ (z : Option Translator). min (words_by w text z) code_limit) reached) s.state (before_of (tokens_of ps)) x.entry x.address p.token
+            (λ e. ((x.direct e).0, (x.direct e).3)) (λ e. same_definitions (cells_of w text) p.token s ks d next e all_below x.steps))
+
+        labelled_next : Labelled w (uses_before (p.token ∷ tokens_of past) (tokens_of ps)) (words_of after_token)
+        labelled_next =
+            let us = uses_before (tokens_of past) (p.token ∷ tokens_of ps) in
+            let l : Labelled w (with_use used us) (words_of d) = labelled_more w used us (words_of d) h.labelled in
+            subst (λ (o : Option Use). Labelled w (with_use o us) (words_of after_token)) (sym used_is)
+            (labelled_at w us (cells_of w text) d x.after s.state (before_of (tokens_of ps)) x.entry x.address p.token l (λ e. ((x.direct e).0, (x.direct e).3))
+            (λ e. same_labelled w (with_use used us) (cells_of w text) p.token s ks d next e all_below (λ a b. known_more w (label_key d.kept) used us (known_next a b)) x.steps l))
+
+        -- a name is kept only after GO TO
+        named_next : top_state next.stack ≡ ToName → is_name p.token ≡ true
+        named_next =
+            is_named (tokens_of past) p.token next.stack
+            (subst (λ (b : List Token). Named b next.stack) (reverse-reverse (p.token ∷ tokens_of past))
+            (pasts.reached (cells_of w text) (λ b v. Named b v.stack) (named (cells_of w text)) (reverse (p.token ∷ tokens_of past)) next reached_next))
+
+        keeping : top_state next.stack ≡ ToName → (s.state ≡ ToWord) × (x.entry ≡ to KeepName ToName)
+        keeping e =
+            kept_entry p.token s.state x.entry (here after_token) x.below (named_next e) (λ i. (x.direct (or_left (is_name p.token) (is_number p.token) i)).0) e
+
+        keeps_spelling : top_state next.stack ≡ ToName → after_token.kept ≡ spelling p.token
+        keeps_spelling e = ap (λ (v : Entry). (perform (cells_of w text) v.action x.address (spelling p.token) x.after).kept) (keeping e).1
+
+        kept_next : (r : ℕ) → UseMeans (symbol_of w text) (cells_of w text) used r →
+            KeptNext w text (tokens_of ps) next.stack after_token (acted room x.entry.action (min x.address 65535) r x.plan)
+        kept_next r m =
+            kept_case w text (tokens_of ps) next.stack after_token (acted room x.entry.action (min x.address 65535) r x.plan)
+            (λ e.
+            let n : (acted room x.entry.action (min x.address 65535) r x.plan).kept ≡ r = ap (λ (v : Entry). (acted room v.action (min x.address 65535) r x.plan).kept) (keeping e).1 in
+            let v = kept_means (symbol_of w text) (cells_of w text) p.token (before_of (tokens_of ps)) r (named_next e)
+            (subst (λ (q : State). UseMeans (symbol_of w text) (cells_of w text) (use_by (role_at q (before_of (tokens_of ps))) p.token) r) (keeping e).0 m) in
+            (λ b. n ∙ v.0 b ∙ ap (cells_of w text).variable_cell (sym (keeps_spelling e)), λ b. n ∙ v.1 b ∙ ap (symbol_of w text) (sym (keeps_spelling e))))
+
+        name_known : KnownNext w text (tokens_of ps) next.stack after_token.kept (uses_before (p.token ∷ tokens_of past) (tokens_of ps))
+        name_known =
+            known_case w text (tokens_of ps) next.stack after_token.kept (uses_before (p.token ∷ tokens_of past) (tokens_of ps))
+            (λ e b.
+            let q : use_of (tokens_of past) p.token (tokens_of ps) ≡ use_by (role_at ToWord false) p.token = used_is ∙ (λ j. use_by (role_at ((keeping e).0 j) (b j)) p.token) in
+            (λ j. known w (label_key (keeps_spelling e j)) (with_use (q j) (uses_before (tokens_of past) (p.token ∷ tokens_of ps))))
+            ∙ kept_known w p.token (uses_before (tokens_of past) (p.token ∷ tokens_of ps)) (named_next e))
+
+        reads_next : (b : Table) (r : ℕ) → ((u : Use) → used ≡ some u → use_refusal w (uses_of (mentions w text past (p ∷ ps))) u ≡ none) → Told w text past p ps used t b r → b.text.now ≡ text →
+            Reads w text (p ∷ past) ps (acted room x.entry.action (min x.address 65535) r x.plan)
+            (pushed_all return_room (acted room x.entry.action (min x.address 65535) r x.plan).made.count x.entry.states (map return_code x.below)) (counted p.token c) b
+        reads_next b r clear told same =
+            let m = told_means used b r used_is told in
+            record {
+              whole = h.whole;
+              translator = next;
+              reached = reached_next;
+              drawn = drawn_next r m;
+              returns = returns_next r m;
+              kept = kept_next r m;
+              known_next = name_known;
+              counted = counted_next;
+              text_is = same;
+              holds = holds_next b r told;
+              matches = matches_next;
+              labelled = labelled_next;
+              passes = passes_next clear;
+            }
+
+-- Without refusal the reader goes on.
+module _ (w : Words) (text : List ℕ) (past : List Placed) (p : Placed) (ps : List Placed) (y : Plan) (k : List Coded) (c : Counts) (t : Table) where
+  -- the reader after an entry that is found
+  abbrev ReadsNext : Table → ℕ → ℕ × Entry → Found → Type 0
+  ReadsNext b r v f =
+      Reads w text (p ∷ past) ps (acted room v.1.action v.0 r f.plan) (pushed_all return_room (acted room v.1.action v.0 r f.plan).made.count v.1.states f.below) (counted p.token c) b
+
+  pub goes_on : Reads w text past (p ∷ ps) y k c t → (a : ℕ) (e : Entry) (b : Table) (r : ℕ) → (at_token w text past p ps y k c t).taken ≡ some (a, e) →
+      ((u : Use) → use_here w text past p ps y k c t ≡ some u → use_refusal w (uses_of (mentions w text past (p ∷ ps))) u ≡ none) →
+      Told w text past p ps (use_here w text past p ps y k c t) t b r → b.text.now ≡ text →
+      form_refusal c (ifs_here w text past p ps y k c t) (listed_by (use_here w text past p ps y k c t)) p.token ≡ None →
+      Reads w text (p ∷ past) ps (acted room e.action a r (at_token w text past p ps y k c t).plan)
+      (pushed_all return_room (acted room e.action a r (at_token w text past p ps y k c t).plan).made.count e.states (at_token w text past p ps y k c t).below) (counted p.token c) b
+  goes_on h a e b r taken clear told same form = go h.translator.stack refl
+    where
+      go : (st : List Return) → h.translator.stack ≡ st → ReadsNext b r (a, e) (at_token w text past p ps y k c t)
+      go [] q = absurd (none-ne-some (a, e) (sym (ap (λ (z : List Coded). (leaving room (class p.token) z y).taken) (h.returns ∙ ap (map return_code) q)) ∙ taken))
+      go (s ∷ ks) q = by (way w text past p ps y k c t h s ks q)
+        where
+          by : Takes (symbol_of w text) (cells_of w text) room p.token s ks h.translator.made y ⊎ Refuses (symbol_of w text) (cells_of w text) room p.token (s ∷ ks) h.translator.made y →
+              ReadsNext b r (a, e) (at_token w text past p ps y k c t)
+          by (inr x) = absurd (none-ne-some (a, e) (sym (ap (λ (z : List Coded). (leaving room (class p.token) z y).taken) (returns w text past p ps y k c t h s ks q) ∙ x.finds) ∙ taken))
+          by (inl x) =
+              let f = found_is w text past p ps y k c t h s ks q x in
+              let v : (min x.address 65535, x.entry) ≡ (a, e) = some-injective (min x.address 65535, x.entry) (a, e) (sym (ap (λ (z : Found). z.taken) f) ∙ taken) in
+              let u : use_here w text past p ps y k c t ≡ use_by (role_at s.state (before_of (tokens_of ps))) p.token =
+              ap (λ (z : List Coded). use_by (role_at (current z) (before_of (tokens_of ps))) p.token) (returns w text past p ps y k c t h s ks q) in
+              let n = no_form_of c (ifs_here w text past p ps y k c t) (listed_by (use_by (role_at s.state (before_of (tokens_of ps))) p.token)) p.token
+              (subst (λ (o : Option Use). form_refusal c (ifs_here w text past p ps y k c t) (listed_by o) p.token ≡ None) u form) in
+              subst (λ (z : ℕ × Entry). ReadsNext b r z (at_token w text past p ps y k c t)) v
+              (subst (ReadsNext b r (min x.address 65535, x.entry)) (sym f)
+              (reads_next w text past p ps y k c t h s ks q x n b r (λ z g. clear z (u ∙ g)) (subst (λ (o : Option Use). Told w text past p ps o t b r) u told) same))
