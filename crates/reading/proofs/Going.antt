@@ -1,81 +1,74 @@
 -- One token without refusal: the reader goes on.
 use Rattle.std.proofs.Common.{◌≡◌, ℕ, zero, suc, pred, eqb, ◌+◌, ◌-◌, ◌<◌, ◌≤◌, min, Bool, true, false, cond, ◌&&◌, ◌||◌, ◌⊎◌, List, [], ◌∷◌, ◌++◌, map, reverse, length, leb, sym, refl, ap, ◌∙◌, subst, inl, inr, arith}
-use mathlib.Core.List.{reverse_aux}
 use mathlib.Core.Option as option
+use mathlib.Core.List.{reverse_aux}
 use mathlib.Core.Option.{Option, none, some, none-ne-some, some-injective}
-use lib.ListN.{length-map}
 use mathlib.Mathlib.Data.List.Basic.{map-reverse_aux}
+use lib.ListN.{length-map}
 use Rattle.std.proofs.lemmas.Bool.{false≢true, leb-false, lt-leb, or_left, or_right, or_parts}
-use Rattle.std.proofs.lemmas.List.{reverse-reverse, reverse-append}
+use Rattle.std.proofs.lemmas.List.{reverse-reverse}
 use Rattle.std.specs.Prelude.{Some, None}
-use Rattle.std.specs.Prelude as prelude
-use Rattle.fault.specs.declared.Refusal.{Refusal}
+use Rattle.std.proofs.lemmas.Grind.{reverse_onto}
 use Rattle.fault.specs.declared.Refusal.TheVariants.{TooManyOperators, TooDeep, TooManyTargets}
 use Rattle.token.specs.Tokens as token
 use Rattle.token.specs.Tokens.{Token, keyword, sign, Placed}
 use Rattle.token.specs.declared.kinds.Keyword.TheVariants.{If, Of}
 use Rattle.token.specs.declared.kinds.Sign.TheVariants.{Open, Close}
-use Rattle.grammar.specs.Tests.{is, is_name, is_number, is_reserved, spelling}
-use Rattle.grammar.specs.Machine.{Rows, stop, on, at_name, at_number, choose}
-use Rattle.limits.specs.Uses.{is_operator, in_expression, count_if, operators, depth, parts, names}
-use Rattle.limits.specs.Rules.{operator_limit, depth_limit, list_limit, code_limit, tokens_of}
-use Rattle.limits.proofs.Configs.{depth_step, parts_step}
-use Rattle.emission.specs.Room.{Sized}
-use Rattle.emission.proofs.Rooms.{text_sized, operators_step}
-use Rattle.grammar.specs.declared.state.State.{State as Recognised}
-use Rattle.grammar.specs.Recogniser.{stack_step, reach}
 use Rattle.trees.specs.Trees.{Name}
-use Rattle.arithmetic.specs.Words.{Words}
-use Rattle.runs.specs.Code.{Layout}
-use Rattle.limits.specs.Uses.{Role, definition, target, listed, variable_use, number_use, Use, made, before_of, name_role, use_of, with_use, uses_before, uses, is_definition, is_listed, is_label, Key, label_key, key, key_by, known, same_key}
-use Rattle.std.proofs.lemmas.Grind.{reverse_onto}
-use Rattle.limits.specs.Refusals.{lowest, or_else, used_so, limit_checks, refused}
-use Rattle.limits.specs.Pass.{or_fault, pass}
-use Rattle.emission.specs.Layouts.{layout}
-use Rattle.symbols.specs.Mentions.{Mention, uses_of, use_refusal, mentions_before, with_mention, index}
-use Rattle.symbols.specs.Table.{Holds}
-use Rattle.symbols.specs.Laws.{symbol_refusal, form_checks_at, form_checks}
-use Rattle.symbols.proofs.Whole.{same_uses, lowest_is}
-use Rattle.assembly.proofs.Acting.{acts}
-use Rattle.reading.specs.References.{reference, numbering, Matches, neither, another_use, both, Labelled}
-use Rattle.grammar.specs.Machine.{Config, start, labelling, let_word, let_name, go_word, to_word, to_name, of_word, of_names, of_comma, read_word, read_names, read_comma, print_word, operand, after, done}
-use Rattle.limits.proofs.Pasts.{past_of}
-use Rattle.limits.proofs.Keys.{same_key_complete}
-use Rattle.emission.specs.Table.{to}
-use Rattle.emission.proofs.Image.{image}
-use Rattle.limits.specs.States.{state_role}
-use Rattle.limits.proofs.Configs.{role_by_state}
-use Rattle.emission.specs.Draft.{Word, fixed, jump, jump_zero, Mark, pending, parenthesis, work, Draft, Definition, words_of, here, patch, operation, reduce, reduced, any, binds, loaded, left_off}
 use Rattle.trees.specs.declared.operator.Operator.{Operator}
 use Rattle.trees.specs.declared.operator.Operator.TheVariants.{Plus, Minus, Times, Over}
+use Rattle.arithmetic.specs.Words.{Words}
+use Rattle.runs.specs.Code.{Layout, first_temporary}
 use Rattle.runs.specs.declared.instruction.Instruction.TheVariants.{Bru}
-use Rattle.runs.specs.Code.{first_temporary}
+use Rattle.grammar.specs.declared.state.State.{State as Recognised}
+use Rattle.grammar.specs.Tests.{is, is_name, is_number, is_reserved, spelling}
+use Rattle.grammar.specs.Machine.{Rows, stop, on, at_name, at_number, choose, Config}
+use Rattle.grammar.specs.Recogniser.{stack_step, reach}
+use Rattle.limits.specs.Uses.{is_operator, in_expression, count_if, operators, depth, parts, names, Role, definition, target, listed, variable_use, number_use, Use, made, before_of, name_role, use_of, with_use, uses_before, uses, is_definition, is_listed, Key, label_key, key, known, same_key}
+use Rattle.limits.specs.Rules.{operator_limit, depth_limit, list_limit, code_limit, tokens_of}
+use Rattle.limits.specs.Refusals.{lowest, or_else, used_so, limit_checks, refused}
+use Rattle.limits.specs.Pass.{or_fault, pass}
+use Rattle.limits.specs.States.{state_role}
+use Rattle.limits.proofs.Configs.{depth_step, parts_step, role_by_state}
+use Rattle.limits.proofs.Pasts.{past_of}
+use Rattle.limits.proofs.Keys.{same_key_complete}
+use Rattle.emission.specs.Room.{Sized}
+use Rattle.emission.specs.Layouts.{layout}
+use Rattle.emission.specs.Table.{to, Entry, table, returning, Return, all_entered, Translator, translator, translated, follow, draft_step, Move, refuse, leave, enter, move}
+use Rattle.emission.specs.Draft.{Word, fixed, jump, jump_zero, Mark, pending, parenthesis, work, Draft, Definition, words_of, here, patch, operation, reduce, reduced, any, binds, loaded, left_off}
 use Rattle.emission.specs.Actions.{operate, perform}
 use Rattle.emission.specs.Control.{control_of, control, control_in}
 use Rattle.emission.specs.Returns.{comes_back, AllBelow}
-use Rattle.emission.proofs.Pasts as pasts
-use Rattle.emission.proofs.Controls.{control_step, control_reach}
-use Rattle.emission.proofs.Waits.{text_shown}
-use Rattle.emission.proofs.Standing.{text_below, text_nested, further}
-use Rattle.emission.proofs.Stepping as stepping
-use Rattle.symbols.specs.declared.table.Table.{Table}
-use Rattle.assembly.specs.Drawn.{Drawn, Refers, Fits, Few}
-use Rattle.reading.specs.TokenLaws.{use_by, listed_by, Told, at_token, use_here, ifs_here}
-use Rattle.reading.specs.Reads.{role_at, current, room, return_room, all_tokens, words_by, cells_of, symbol_of, label_at, mentions, refused_first, KeptNext, KnownNext, Reads}
 use Rattle.emission.specs.declared.action.Action.{Action}
 use Rattle.emission.specs.declared.action.Action.TheVariants.{Nothing, DefineLabel, SetTarget, StoreTarget, KeepName, JumpToName, LoadName, FirstLabel, FurtherLabel, ReadName, SkipLine, PrintValue, EndLine, PushVariable, PushNumber, OpenGroup, CloseGroup, Operate, EndExpression, Compare, BeginThen, BeginElse, EndElse, EndProgram}
 use Rattle.emission.specs.declared.state.State.{State}
 use Rattle.emission.specs.declared.state.State.TheVariants.{Next, Start, Label, LetWord, LetName, LetEnd, GoWord, ToWord, ToName, OfWord, OfNames, OfComma, ReadWord, ReadNames, ReadComma, PrintWord, PrintList, LeftSide, RightSide, ThenPart, ElsePart, Operand, AfterOperand, Group}
-use Rattle.emission.specs.Table.{Entry, table, returning, Return, all_entered, Translator, translator, translated, follow, draft_step, Move, refuse, leave, enter, decided, move}
 use Rattle.emission.specs.Classes.{class}
+use Rattle.emission.proofs.Pasts as pasts
+use Rattle.emission.proofs.Stepping as stepping
+use Rattle.emission.proofs.Rooms.{text_sized, operators_step}
+use Rattle.emission.proofs.Image.{image}
+use Rattle.emission.proofs.Controls.{control_step, control_reach}
+use Rattle.emission.proofs.Waits.{text_shown}
+use Rattle.emission.proofs.Standing.{text_below, text_nested, further}
 use Rattle.emission.proofs.Tables.{by_class}
+use Rattle.symbols.specs.Mentions.{Mention, uses_of, use_refusal, with_mention}
+use Rattle.symbols.specs.Table.{Holds}
+use Rattle.symbols.specs.Laws.{symbol_refusal, form_checks_at}
+use Rattle.symbols.specs.declared.table.Table.{Table}
+use Rattle.symbols.proofs.Whole.{same_uses, lowest_is}
+use Rattle.assembly.specs.Drawn.{Drawn, Refers, Fits, Few}
 use Rattle.assembly.specs.Plans.{Plan, Rooms, acted}
+use Rattle.assembly.proofs.Acting.{acts}
 use Rattle.reading.specs.declared.returns.Return.{Return as Coded}
+use Rattle.reading.specs.References.{reference, numbering, Matches, another_use, both, Labelled}
+use Rattle.reading.specs.TokenLaws.{use_by, listed_by, Told, at_token, use_here, ifs_here}
+use Rattle.reading.specs.Reads.{role_at, current, room, return_room, all_tokens, words_by, cells_of, symbol_of, label_at, mentions, refused_first, KeptNext, KnownNext, Reads}
 use Rattle.reading.specs.Steps.{return_code, Found, found, after_move, leaving, pushed_all, Kept, Takes, Refuses}
-use Rattle.reading.proofs.Staying.{stays}
-use Rattle.reading.proofs.Leaving.{entry_of, no_entry, of_left, not_below, leaves}
 use Rattle.reading.specs.declared.counts.Counts.{Counts}
 use Rattle.reading.specs.Counting.{counted, form_refusal, Counted}
+use Rattle.reading.proofs.Staying.{stays}
+use Rattle.reading.proofs.Leaving.{entry_of, no_entry, of_left, not_below, leaves}
 
 -- Entries.
 
@@ -193,30 +186,7 @@ RoleOf [] o x = Unit {0}
 RoleOf (r ∷ rs) o x = state_role r o ≡ x
 
 role_of : (s : State) (o : Bool) → RoleOf (control_of s) o (role_at s o)
-role_of Next o = refl
-role_of Start o = refl
-role_of Label o = refl
-role_of LetWord o = refl
-role_of LetName o = refl
-role_of LetEnd o = tt
-role_of GoWord o = refl
-role_of ToWord o = refl
-role_of ToName o = refl
-role_of OfWord o = refl
-role_of OfNames o = refl
-role_of OfComma o = refl
-role_of ReadWord o = refl
-role_of ReadNames o = refl
-role_of ReadComma o = refl
-role_of PrintWord o = refl
-role_of PrintList o = refl
-role_of LeftSide o = refl
-role_of RightSide o = refl
-role_of ThenPart o = refl
-role_of ElsePart o = tt
-role_of Operand o = refl
-role_of AfterOperand o = refl
-role_of Group o = refl
+role_of s o = grind arith
 
 -- the use of a token that a translator takes is what its current state says
 use_is : (y : Layout) (past rest : List Token) (t : Token) (s : Return) (k : List Return) (d : Draft) (z : Translator) →
@@ -245,30 +215,7 @@ no_if_below q (r ∷ k) p b = go r.state b.0 (λ p. no_if_below q k p b.1)
   where
     go : (s : State) → comes_back s ≡ true → ((p : Plan) → (leaving q 9 (map return_code k) p).taken ≡ none) →
         (leaving q 9 (record { state = s; address = min r.address 65535 } ∷ map return_code k) p).taken ≡ none
-    go Next e ih = refl
-    go Start e ih = absurd (false≢true e)
-    go Label e ih = absurd (false≢true e)
-    go LetWord e ih = absurd (false≢true e)
-    go LetName e ih = absurd (false≢true e)
-    go LetEnd e ih = ih _
-    go GoWord e ih = absurd (false≢true e)
-    go ToWord e ih = absurd (false≢true e)
-    go ToName e ih = absurd (false≢true e)
-    go OfWord e ih = absurd (false≢true e)
-    go OfNames e ih = absurd (false≢true e)
-    go OfComma e ih = absurd (false≢true e)
-    go ReadWord e ih = absurd (false≢true e)
-    go ReadNames e ih = absurd (false≢true e)
-    go ReadComma e ih = absurd (false≢true e)
-    go PrintWord e ih = absurd (false≢true e)
-    go PrintList e ih = ih _
-    go LeftSide e ih = refl
-    go RightSide e ih = refl
-    go ThenPart e ih = refl
-    go ElsePart e ih = ih _
-    go Operand e ih = absurd (false≢true e)
-    go AfterOperand e ih = absurd (false≢true e)
-    go Group e ih = refl
+    go s e ih = grind arith
 
 if_starts : (q : Rooms) (s : Return) (k : List Return) (p : Plan) (a : ℕ) (e : Entry) → AllBelow k → (leaving q 9 (map return_code (s ∷ k)) p).taken ≡ some (a, e) →
     (s.state ≡ Start) × ((leaving q 9 (map return_code (s ∷ k)) p).below ≡ map return_code k)
@@ -276,30 +223,7 @@ if_starts q s k p a e b = go s.state (λ x. no_if_below q k x b)
   where
     go : (r : State) → ((x : Plan) → (leaving q 9 (map return_code k) x).taken ≡ none) → (leaving q 9 (record { state = r; address = min s.address 65535 } ∷ map return_code k) p).taken ≡ some (a, e) →
         (r ≡ Start) × ((leaving q 9 (record { state = r; address = min s.address 65535 } ∷ map return_code k) p).below ≡ map return_code k)
-    go Next ih h = absurd (none-ne-some (a, e) h)
-    go Start ih h = (refl, refl)
-    go Label ih h = absurd (none-ne-some (a, e) h)
-    go LetWord ih h = absurd (none-ne-some (a, e) h)
-    go LetName ih h = absurd (none-ne-some (a, e) h)
-    go LetEnd ih h = absurd (none-ne-some (a, e) (sym (ih _) ∙ h))
-    go GoWord ih h = absurd (none-ne-some (a, e) h)
-    go ToWord ih h = absurd (none-ne-some (a, e) h)
-    go ToName ih h = absurd (none-ne-some (a, e) (sym (ih _) ∙ h))
-    go OfWord ih h = absurd (none-ne-some (a, e) h)
-    go OfNames ih h = absurd (none-ne-some (a, e) (sym (ih _) ∙ h))
-    go OfComma ih h = absurd (none-ne-some (a, e) h)
-    go ReadWord ih h = absurd (none-ne-some (a, e) (sym (ih _) ∙ h))
-    go ReadNames ih h = absurd (none-ne-some (a, e) (sym (ih _) ∙ h))
-    go ReadComma ih h = absurd (none-ne-some (a, e) h)
-    go PrintWord ih h = absurd (none-ne-some (a, e) (sym (ih _) ∙ h))
-    go PrintList ih h = absurd (none-ne-some (a, e) (sym (ih _) ∙ h))
-    go LeftSide ih h = absurd (none-ne-some (a, e) h)
-    go RightSide ih h = absurd (none-ne-some (a, e) h)
-    go ThenPart ih h = absurd (none-ne-some (a, e) h)
-    go ElsePart ih h = absurd (none-ne-some (a, e) (sym (ih _) ∙ h))
-    go Operand ih h = absurd (none-ne-some (a, e) h)
-    go AfterOperand ih h = absurd (none-ne-some (a, e) (sym (ih _) ∙ h))
-    go Group ih h = absurd (none-ne-some (a, e) h)
+    go r ih h = grind arith
 
 if_is : (t : Token) → is (keyword If) t ≡ true → class t ≡ 9
 if_is t e = grind arith
@@ -319,11 +243,7 @@ UseMeans number y none r = Unit {0}
 UseMeans number y (some u) r = Means number y u.role u.spelling r
 
 means_of : (w : Words) (ts : List Token) (q : Role) (n : Name) (r : ℕ) → r ≡ reference w (uses ts) (made q n) → Means (numbering w ts) (layout w ts) q n r
-means_of w ts definition n r e = e
-means_of w ts target n r e = e
-means_of w ts listed n r e = e
-means_of w ts variable_use n r e = e
-means_of w ts number_use n r e = e
+means_of w ts q n r e = grind arith
 
 abbrev Entered : (Entry → Type 0) → Option Entry → Type 0
 Entered P none = Unit {0}
@@ -331,82 +251,13 @@ Entered P (some e) = P e
 
 module _ (number : Name → ℕ) (y : Layout) (d : Draft) (p : Plan) (n : Name) (r : ℕ) where
   name_refers : (s : State) (o : Bool) → Entered (λ e. Means number y (role_at s o) n r → Refers number y e.action n r d p) (choose (table s) (token.name n))
-  name_refers Next o = tt
-  name_refers Start o = λ m. tt
-  name_refers Label o = tt
-  name_refers LetWord o = λ m. m
-  name_refers LetName o = tt
-  name_refers LetEnd o = tt
-  name_refers GoWord o = tt
-  name_refers ToWord o = λ m. tt
-  name_refers ToName o = tt
-  name_refers OfWord o = λ m. m
-  name_refers OfNames o = tt
-  name_refers OfComma o = λ m. m
-  name_refers ReadWord o = λ m. m
-  name_refers ReadNames o = tt
-  name_refers ReadComma o = λ m. m
-  name_refers PrintWord o = λ m. m
-  name_refers PrintList o = tt
-  name_refers LeftSide o = tt
-  name_refers RightSide o = tt
-  name_refers ThenPart o = tt
-  name_refers ElsePart o = tt
-  name_refers Operand o = λ m. m
-  name_refers AfterOperand o = tt
-  name_refers Group o = tt
+  name_refers s o = grind arith
 
   number_refers : (s : State) → Entered (λ e. r ≡ y.literal_cell n → Refers number y e.action n r d p) (choose (table s) (token.number n))
-  number_refers Next = tt
-  number_refers Start = tt
-  number_refers Label = tt
-  number_refers LetWord = tt
-  number_refers LetName = tt
-  number_refers LetEnd = tt
-  number_refers GoWord = tt
-  number_refers ToWord = tt
-  number_refers ToName = tt
-  number_refers OfWord = tt
-  number_refers OfNames = tt
-  number_refers OfComma = tt
-  number_refers ReadWord = tt
-  number_refers ReadNames = tt
-  number_refers ReadComma = tt
-  number_refers PrintWord = λ m. m
-  number_refers PrintList = tt
-  number_refers LeftSide = tt
-  number_refers RightSide = tt
-  number_refers ThenPart = tt
-  number_refers ElsePart = tt
-  number_refers Operand = λ m. m
-  number_refers AfterOperand = tt
-  number_refers Group = tt
+  number_refers s = grind arith
 
   plain_refers : (b : Action) → plain_action b ≡ true → (b ≡ LoadName → p.kept ≡ y.variable_cell d.kept) → Refers number y b n r d p
-  plain_refers Nothing e l = tt
-  plain_refers DefineLabel e l = tt
-  plain_refers SetTarget e l = absurd (false≢true e)
-  plain_refers StoreTarget e l = tt
-  plain_refers KeepName e l = tt
-  plain_refers JumpToName e l = absurd (false≢true e)
-  plain_refers LoadName e l = l refl
-  plain_refers FirstLabel e l = absurd (false≢true e)
-  plain_refers FurtherLabel e l = absurd (false≢true e)
-  plain_refers ReadName e l = absurd (false≢true e)
-  plain_refers SkipLine e l = tt
-  plain_refers PrintValue e l = tt
-  plain_refers EndLine e l = tt
-  plain_refers PushVariable e l = absurd (false≢true e)
-  plain_refers PushNumber e l = absurd (false≢true e)
-  plain_refers OpenGroup e l = tt
-  plain_refers CloseGroup e l = tt
-  plain_refers (Operate o) e l = tt
-  plain_refers EndExpression e l = tt
-  plain_refers (Compare x) e l = tt
-  plain_refers BeginThen e l = tt
-  plain_refers BeginElse e l = tt
-  plain_refers EndElse e l = tt
-  plain_refers EndProgram e l = tt
+  plain_refers b e l = grind arith
 
 -- what the action of an entry needs to know, at the token that the entry takes
 refers_at : (number : Name → ℕ) (y : Layout) (t : Token) (s q : State) (o : Bool) (e : Entry) (r : ℕ) (d : Draft) (p : Plan) → move q t ≡ enter e →
@@ -453,23 +304,7 @@ Named b [] = Unit {0}
 Named b (r ∷ k) = r.state ≡ ToName → IsNamed b
 
 named : (y : Layout) (c : Config) → Named (past_of c) (image y c).stack
-named y (start k) = λ e. cc
-named y (labelling n k) = λ e. cc
-named y (let_word k) = λ e. cc
-named y (let_name n k) = λ e. cc
-named y (go_word k) = λ e. cc
-named y (to_word k) = λ e. cc
-named y (to_name n k) = λ e. refl
-named y (of_word n k) = λ e. cc
-named y (of_names n ns k) = λ e. cc
-named y (of_comma n ns k) = λ e. cc
-named y (read_word k) = λ e. cc
-named y (read_names ns k) = λ e. cc
-named y (read_comma ns k) = λ e. cc
-named y (print_word k) = λ e. cc
-named y (operand f k) = λ e. cc
-named y (after f v k) = λ e. cc
-named y (done cs) = tt
+named y c = grind arith
 
 abbrev top_state : List Return → State
 top_state [] = Next
@@ -480,30 +315,7 @@ abbrev KeepsName : State → Entry → Type 0
 KeepsName s e = (a : ℕ) (k : List Return) → top_state (all_entered a e.states ++ k) ≡ ToName → (s ≡ ToWord) × (e ≡ to KeepName ToName)
 
 keeps_name : (s : State) (n : Name) → Entered (KeepsName s) (choose (table s) (token.name n))
-keeps_name Next n = tt
-keeps_name Start n = λ a k e. cc
-keeps_name Label n = tt
-keeps_name LetWord n = λ a k e. cc
-keeps_name LetName n = tt
-keeps_name LetEnd n = tt
-keeps_name GoWord n = tt
-keeps_name ToWord n = λ a k e. (refl, refl)
-keeps_name ToName n = tt
-keeps_name OfWord n = λ a k e. cc
-keeps_name OfNames n = tt
-keeps_name OfComma n = λ a k e. cc
-keeps_name ReadWord n = λ a k e. cc
-keeps_name ReadNames n = tt
-keeps_name ReadComma n = λ a k e. cc
-keeps_name PrintWord n = λ a k e. cc
-keeps_name PrintList n = tt
-keeps_name LeftSide n = tt
-keeps_name RightSide n = tt
-keeps_name ThenPart n = tt
-keeps_name ElsePart n = tt
-keeps_name Operand n = λ a k e. cc
-keeps_name AfterOperand n = tt
-keeps_name Group n = tt
+keeps_name s n = grind arith
 
 kept_entry : (t : Token) (s : State) (e : Entry) (a : ℕ) (k : List Return) → is_name t ≡ true → (is_name t ≡ true → move s t ≡ enter e) → top_state (all_entered a e.states ++ k) ≡ ToName →
     (s ≡ ToWord) × (e ≡ to KeepName ToName)
@@ -786,7 +598,7 @@ module _ (w : Words) (us : List Use) where
     labelled_perform OpenGroup a n d m h = h
     labelled_perform CloseGroup a n d m h = h
     labelled_perform (Operate o) a n d m h = labelled_operate o d h
-    labelled_perform EndExpression a n d m h = 
+    labelled_perform EndExpression a n d m h =
         let v = reduced any d.making in
         labelled_off v.marks v.cells v.temporaries v.words (labelled_reduce any d.making.marks d.making.cells d.making.temporaries d.making.words h)
     labelled_perform (Compare x) a n d m h = h
@@ -800,109 +612,17 @@ module _ (w : Words) (us : List Use) where
   ReturnNeeds d (some b) = Needs b [] d
 
   return_needs : (d : Draft) (s : State) → (s ≡ ToName → known w (label_key d.kept) us ≡ true) → ReturnNeeds d (returning s)
-  return_needs d Next l = tt
-  return_needs d Start l = tt
-  return_needs d Label l = tt
-  return_needs d LetWord l = tt
-  return_needs d LetName l = tt
-  return_needs d LetEnd l = tt
-  return_needs d GoWord l = tt
-  return_needs d ToWord l = tt
-  return_needs d ToName l = l refl
-  return_needs d OfWord l = tt
-  return_needs d OfNames l = tt
-  return_needs d OfComma l = tt
-  return_needs d ReadWord l = tt
-  return_needs d ReadNames l = tt
-  return_needs d ReadComma l = tt
-  return_needs d PrintWord l = tt
-  return_needs d PrintList l = tt
-  return_needs d LeftSide l = tt
-  return_needs d RightSide l = tt
-  return_needs d ThenPart l = tt
-  return_needs d ElsePart l = tt
-  return_needs d Operand l = tt
-  return_needs d AfterOperand l = tt
-  return_needs d Group l = tt
+  return_needs d s l = grind arith
 
   plain_needs : (d : Draft) (n : Name) (b : Action) → plain_action b ≡ true → Needs b n d
-  plain_needs d n Nothing e = tt
-  plain_needs d n DefineLabel e = tt
-  plain_needs d n SetTarget e = tt
-  plain_needs d n StoreTarget e = tt
-  plain_needs d n KeepName e = tt
-  plain_needs d n JumpToName e = absurd (false≢true e)
-  plain_needs d n LoadName e = tt
-  plain_needs d n FirstLabel e = absurd (false≢true e)
-  plain_needs d n FurtherLabel e = absurd (false≢true e)
-  plain_needs d n ReadName e = tt
-  plain_needs d n SkipLine e = tt
-  plain_needs d n PrintValue e = tt
-  plain_needs d n EndLine e = tt
-  plain_needs d n PushVariable e = tt
-  plain_needs d n PushNumber e = tt
-  plain_needs d n OpenGroup e = tt
-  plain_needs d n CloseGroup e = tt
-  plain_needs d n (Operate o) e = tt
-  plain_needs d n EndExpression e = tt
-  plain_needs d n (Compare x) e = tt
-  plain_needs d n BeginThen e = tt
-  plain_needs d n BeginElse e = tt
-  plain_needs d n EndElse e = tt
-  plain_needs d n EndProgram e = tt
+  plain_needs d n b e = grind arith
 
 module _ (w : Words) (us : List Use) (d : Draft) (n : Name) where
   name_needs : (s : State) (o : Bool) → Entered (λ e. Needs w (made (role_at s o) n ∷ us) e.action n d) (choose (table s) (token.name n))
-  name_needs Next o = tt
-  name_needs Start o = tt
-  name_needs Label o = tt
-  name_needs LetWord o = tt
-  name_needs LetName o = tt
-  name_needs LetEnd o = tt
-  name_needs GoWord o = tt
-  name_needs ToWord o = tt
-  name_needs ToName o = tt
-  name_needs OfWord o = known_newest w (label_key n) (made listed n) us refl
-  name_needs OfNames o = tt
-  name_needs OfComma o = known_newest w (label_key n) (made listed n) us refl
-  name_needs ReadWord o = tt
-  name_needs ReadNames o = tt
-  name_needs ReadComma o = tt
-  name_needs PrintWord o = tt
-  name_needs PrintList o = tt
-  name_needs LeftSide o = tt
-  name_needs RightSide o = tt
-  name_needs ThenPart o = tt
-  name_needs ElsePart o = tt
-  name_needs Operand o = tt
-  name_needs AfterOperand o = tt
-  name_needs Group o = tt
+  name_needs s o = grind (arith, known_newest w (label_key n) (made listed n) us refl)
 
   number_needs : (s : State) → Entered (λ e. Needs w (made number_use n ∷ us) e.action n d) (choose (table s) (token.number n))
-  number_needs Next = tt
-  number_needs Start = tt
-  number_needs Label = tt
-  number_needs LetWord = tt
-  number_needs LetName = tt
-  number_needs LetEnd = tt
-  number_needs GoWord = tt
-  number_needs ToWord = tt
-  number_needs ToName = tt
-  number_needs OfWord = tt
-  number_needs OfNames = tt
-  number_needs OfComma = tt
-  number_needs ReadWord = tt
-  number_needs ReadNames = tt
-  number_needs ReadComma = tt
-  number_needs PrintWord = tt
-  number_needs PrintList = tt
-  number_needs LeftSide = tt
-  number_needs RightSide = tt
-  number_needs ThenPart = tt
-  number_needs ElsePart = tt
-  number_needs Operand = tt
-  number_needs AfterOperand = tt
-  number_needs Group = tt
+  number_needs s = grind arith
 
 -- a use more
 known_more : (w : Words) (k : Key) (o : Option Use) (us : List Use) → known w k us ≡ true → known w k (with_use o us) ≡ true
@@ -941,6 +661,7 @@ module _ (w : Words) (us : List Use) (y : Layout) (d after_left : Draft) (s : St
   labelled_at (sign j) h f g = g refl
   labelled_at (token.other b) h f g = g refl
 
+-- what is kept, and among the uses, if the current state is the one after a name that is kept
 kept_case : (w : Words) (text : List ℕ) (rest : List Token) (k : List Return) (d : Draft) (p : Plan) →
     (top_state k ≡ ToName → (before_of rest ≡ true → p.kept ≡ (cells_of w text).variable_cell d.kept) × (before_of rest ≡ false → p.kept ≡ symbol_of w text d.kept)) →
     KeptNext w text rest k d p
@@ -954,12 +675,14 @@ known_case w text rest [] n us f = tt
 known_case w text [] (s ∷ k) n us f = tt
 known_case w text (t ∷ rest) (s ∷ k) n us f = f
 
+-- then the last token is that name
 is_named : (b : List Token) (t : Token) (k : List Return) → Named (t ∷ b) k → top_state k ≡ ToName → is_name t ≡ true
 is_named b t [] f e = cc
 is_named b t (r ∷ k) f e = f e
 
 -- The reader.
 
+-- A reader that holds what it should, at one token more: its stack is not empty, and each field of `Reads` for the reader after it.
 module _ (w : Words) (text : List ℕ) (past : List Placed) (p : Placed) (ps : List Placed) (y : Plan) (k : List Coded) (c : Counts) (t : Table)
     (h : Reads w text past (p ∷ ps) y k c t) where
   abbrev d : Draft
@@ -1003,6 +726,7 @@ module _ (w : Words) (text : List ℕ) (past : List Placed) (p : Placed) (ps : L
         let n = text_nested (cells_of w text) (reverse (tokens_of past)) s ks d reached x.0 in
         ap (λ (z : Found). length z.below) m ∙ ap length x.1 ∙ length-map ks return_code ∙ n ∙ ap (λ (b : List Token). suc (length (parts b))) (reverse-reverse (tokens_of past))
 
+    -- a state takes the token
     module _ (x : Takes (symbol_of w text) (cells_of w text) room p.token s ks d y) where
       abbrev after_token : Draft
       after_token = perform (cells_of w text) x.entry.action x.address (spelling p.token) x.after
@@ -1016,6 +740,7 @@ module _ (w : Words) (text : List ℕ) (past : List Placed) (p : Placed) (ps : L
       found_is : leaving room (class p.token) k y ≡ found (some (min x.address 65535, x.entry)) (map return_code x.below) x.plan
       found_is = (λ j. leaving room (class p.token) (returns j) y) ∙ x.finds
 
+      -- the entry is one of the table
       from_state : (q : State) × (move q p.token ≡ enter x.entry)
       from_state = entry_from room p.token (map return_code (s ∷ ks)) y (min x.address 65535) x.entry (ap (λ (z : Found). z.taken) x.finds)
 
