@@ -190,7 +190,7 @@ module _ (y : Layout) where
   text_sized = reached y Sized sized
 
 -- As long as no refusal stands, a whole expression has few operators.
-operators_step : (t : Token) (b : List Token) → operators b ≤ operator_limit → (is_operator t ≡ true → operators b < operator_limit) → operators (t ∷ b) ≤ operator_limit
+pub operators_step : (t : Token) (b : List Token) → operators b ≤ operator_limit → (is_operator t ≡ true → operators b < operator_limit) → operators (t ∷ b) ≤ operator_limit
 operators_step t b h g = go (is_operator t) (in_expression t) g
   where
     go : (x z : Bool) → (x ≡ true → operators b < operator_limit) → cond x (suc (operators b)) (cond z (operators b) 0) ≤ operator_limit

@@ -181,7 +181,7 @@ role_by_state ts s k j n r e h =
     ap (λ (b : List Token). name_role b r) c.2 ∙ role_config c.0 j n r g ∙ ap (λ (x : List State). state_role (top x) (before_of r)) c.1
 
 -- Nesting stays within its limits as long as no refusal stands.
-depth_step : (t : Token) (b : List Token) → depth b ≤ depth_limit → (is (sign Open) t ≡ true → depth b < depth_limit) → depth (t ∷ b) ≤ depth_limit
+pub depth_step : (t : Token) (b : List Token) → depth b ≤ depth_limit → (is (sign Open) t ≡ true → depth b < depth_limit) → depth (t ∷ b) ≤ depth_limit
 depth_step t b h g = go (is (sign Open) t) (is (sign Close) t) (in_expression t) g
   where
     go : (x y z : Bool) → (x ≡ true → depth b < depth_limit) → cond x (suc (depth b)) (cond y (pred (depth b)) (cond z (depth b) 0)) ≤ depth_limit
@@ -192,7 +192,7 @@ after_else_shorter [] = omega arith
 after_else_shorter (in_then ∷ ps) = omega arith
 after_else_shorter (in_else ∷ ps) = let h = after_else_shorter ps in omega arith
 
-parts_step : (t : Token) (b : List Token) → length (parts b) ≤ depth_limit → (is (keyword If) t ≡ true → length (parts b) < depth_limit) → length (parts (t ∷ b)) ≤ depth_limit
+pub parts_step : (t : Token) (b : List Token) → length (parts b) ≤ depth_limit → (is (keyword If) t ≡ true → length (parts b) < depth_limit) → length (parts (t ∷ b)) ≤ depth_limit
 parts_step t b h g = go (is (keyword If) t) (is (keyword Else) t) (is (sign Semicolon) t) g
   where
     go : (x y z : Bool) → (x ≡ true → length (parts b) < depth_limit) → length (cond x (in_then ∷ parts b) (cond y (after_else (parts b)) (cond z [] (parts b)))) ≤ depth_limit

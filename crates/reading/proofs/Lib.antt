@@ -5,3 +5,5 @@ pub mod Bounded
 pub mod Leaving
 pub mod Ending
 pub mod Refusing
+pub mod Going
+pub mod Onward

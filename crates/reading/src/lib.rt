@@ -4,7 +4,7 @@
 
 ghost use Rattle.reading.specs.Laws.{Stays, Placed, Resolves};
 ghost use Rattle.reading.specs.StepLaws.{Leaves};
-ghost use Rattle.reading.specs.TokenLaws.{Ends};
+ghost use Rattle.reading.specs.TokenLaws.{Ends, ReadingOn};
 
 pub mod counts;
 pub mod returns;
@@ -27,6 +27,11 @@ pub fn words_resolve()
 // At a token the states on the stack are left, in memory as in the definitions, until one takes it.
 pub fn states_are_left()
     ensures { Leaves }
+{}
+
+// One token more: a reader that holds what the tokens so far make finds the first refusal at the token, or holds what the tokens with it make.
+pub fn reading_goes_on()
+    ensures { ReadingOn }
 {}
 
 // At the end of the tokens a reader without a state has read a program without refusal, and else the text breaks off.
