@@ -17,6 +17,7 @@ fn settle<N: Arithmetic>(exact: i64) -> i32
 }
 
 // Four functions and not one over an operation: each has its own exact result and its own rule, and a quotient's is by cases.
+// Their two words stay two parameters: an operation has two sides.
 pub fn sum<N: Arithmetic>(a: i32, b: i32) -> i32
     ensures { result ≡ sum_of N.Arithmetic.words a b }
 {

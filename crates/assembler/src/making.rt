@@ -261,7 +261,8 @@ impl<'c, 'o, 'm> Assembler<'c, 'o, 'm> {
         self.relation = relation;
     }
 
-    // The second value is compared with the first: on to the THEN part, or over it to an address that is not known yet.
+    // The second value is compared with the first: on to the THEN part, or over it to an address that is not known yet. A word holds a
+    // number, so that such an address is 0 until the jump lands.
     fn begin_then(&mut self)
         ensures after { plan self.new ≡ begin_then (plan self.old) }
         ensures kept { Keeps self.old self.new }

@@ -38,7 +38,8 @@ fn write_digits(out: &mut [u8], mut n: u32)
 #[derive(Clone, Copy, PartialEq, Eq, Debug)]
 pub struct NoRoom;
 
-// Writes a number from `start` on, where it fits; else nothing changes. Callers write at a place of a list of theirs, and are told so.
+// Writes a number from `start` on, where it fits; else nothing changes. The place is a parameter,
+// since the contract says what the whole list holds afterwards.
 #[tactic(auto, using(crate::proofs::Writes::written_by_sign))]
 pub fn write(out: &mut [u8], start: usize, n: i32) -> Result<(), NoRoom>
     ensures fits { is_ok result ≡ nat_le (start + length (signed n)) (length out.old) }

@@ -86,6 +86,7 @@ impl Host for Tray<'_, '_> {
         Some(line)
     }
 
+    // Each host has its own `put` and `close` over its `print`: a host is written by the four methods of the trait, and `print` is none of them.
     fn put(&mut self, word: i32) -> Result<(), NoPaper> {
         self.print(Mark::Number(word))
     }

@@ -36,6 +36,7 @@ impl<'c, 'o, 'm, 'r> Reader<'c, 'o, 'm, 'r> {
         'states: while let Some(top) = self.returns.pop() {
             match entry(top.state, class) {
                 Move::Refuse => return None,
+                // Leaving refers to nothing, which is 0: no action of it reads the number.
                 Move::Leave(action) => self.assembler.perform(action, top.address, 0),
                 Move::Take(action, states) => {
                     return Some(Step {

@@ -194,7 +194,8 @@ impl<'s, 'c, 't> Table<'s, 'c, 't> {
         self.find(|s| self.is_valued(word, *s))
     }
 
-    // Whether memory lacks for one symbol more, a label or one with a cell.
+    // Whether memory lacks for one symbol more, a label or one with a cell. That it does not is asked by the functions that enter one, and is
+    // no invariant: it depends on the kind of symbol, and holds of no full table.
     fn is_short(&self, label: bool) -> bool
         ensures { result ≡ is_short label self.now }
     {

@@ -69,7 +69,7 @@ impl<'i, 'o, 'l> TextHost<'i, 'o, 'l> {
     }
 }
 
-// Writes a mark's bytes from `start` on, where there is room for them.
+// Writes a mark's bytes from `start` on, where there is room for them; the contract says what the whole list holds afterwards.
 fn write(out: &mut [u8], start: usize, mark: Mark)
     requires { start + byte_weight mark ≤ length out.old }
     ensures { out.new ≡ overwritten out.old start (mark_bytes mark) }
@@ -108,6 +108,7 @@ impl Host for TextHost<'_, '_, '_> {
         self.input.next()
     }
 
+    // Each host has its own `put` and `close` over its `print`: a host is written by the four methods of the trait, and `print` is none of them.
     fn put(&mut self, word: i32) -> Result<(), NoPaper> {
         self.print(Mark::Number(word))
     }

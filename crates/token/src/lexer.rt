@@ -27,7 +27,8 @@ enum State {
 pub struct Lexer<'t> {
     text: &'t [u8],
     at: usize,
-    // It changes in place with each byte, so that it is the lexer's own and no answer; between calls it means nothing.
+    // By a rule of the project one match on the state and the next byte changes the state in place, so that it is the lexer's own and no
+    // answer of its functions. Between calls it means nothing.
     state: State,
     ghost within: { at ≤ length text.now },
 }

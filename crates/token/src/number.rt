@@ -24,7 +24,7 @@ fn append<N: Arithmetic>(word: i32, d: u8) -> i32
     N::fit(10 * word as i64 + d as i64)
 }
 
-// The value of a digit.
+// The value of a digit. The library's `to_digit` is of characters and answers 32 bits, which would be taken back to a byte.
 fn digit_value(b: u8) -> Option<u8>
     ensures { result ≡ (if digit b then Some (b - 48) else None) }
 {
