@@ -1,2 +1,4 @@
+mod Assumed
 mod Leaving
 mod Noted
+mod OneToken
