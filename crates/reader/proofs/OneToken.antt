@@ -33,7 +33,7 @@ use Rattle.reader.specs.declared.step.Step.{Step}
 use Rattle.reader.specs.Views.{plan, rooms, returns, return_room, Keeps, entry_of, Answers}
 use Rattle.reader.specs.Tokens.{listed_name, counted_by, form_refusal_by}
 use Rattle.reader.specs.Telling.{Noted, Short, TokenNoted}
-use Rattle.reader.specs.Taking.{refused, FormChecked, After, TakenAt}
+use Rattle.reader.specs.Taking.{refused, FormChecked, After, TakenAt, Comes}
 use Rattle.reader.proofs.Assumed.{reading_on}
 
 -- the error in place of no value
@@ -121,90 +121,106 @@ module _ (w : Words) (text : List ℕ) (past : List Placed) (p : Placed) (ps : L
   form_refused a e b v f x n g q =
       one.no_form a e f.refusal x n.0 g ∙ ap (λ z. maybe.some (record { number = numbered f.refusal; place = z })) (sym q)
 
--- At a reader that is to take the token, by its class.
-module _ (w : Words) (text : List ℕ) (past : List Placed) (p : Placed) (ps : List Placed) (a : Reader) (s : Table) (h : After w text past (p ∷ ps) a s)
-    (k place : ℕ) (token : Option Token) (class_is : k ≡ class_or_end token) (token_is : token ≡ Some p.token) (place_is : place ≡ p.offset) where
+-- A reader and a table that hold what the tokens past make, at a token, which is the next one.
+module _ (w : Words) (text : List ℕ) (past : List Placed) (p : Placed) (ps : List Placed) (a : Reader) (s : Table) (place : ℕ) (token : Option Token) (of : Bool)
+    (h : After w text past (p ∷ ps) a s) (x : Comes text p ps place token of) where
   abbrev pub here : Found
-  here = spot w text past p ps (plan a) (returns a) a.counts s h.reads
+  here = at_token w text past p ps (plan a) (returns a) a.counts s
 
-  abbrev pub its_use : maybe.Option Use
-  its_use = used w text past p ps (plan a) (returns a) a.counts s h.reads
+  abbrev its_use : maybe.Option Use
+  its_use = use_here w text past p ps (plan a) (returns a) a.counts s
 
-  abbrev pub Heard : Table → Result ℕ Fault → Type 0
-  Heard b x = Accounted w text past p ps (plan a) (returns a) a.counts s h.reads its_use b x
+  -- what the states come to that are left, by the class of the token
+  abbrev pub left : ℕ → Found
+  left k = leaving (rooms a) k (returns a) (plan a)
 
-  abbrev left : Found
-  left = leaving (rooms a) k (returns a) (plan a)
-
-  left_is : left ≡ here
-  left_is = λ i. leaving (h.rooms_are i) ((class_is ∙ ap class_or_end token_is) i) (returns a) (plan a)
-
-  none_takes : (o : Option Step) → o ≡ None → Answers left.taken o → here.taken ≡ maybe.none
-  none_takes o e x = ap (λ (z : Found). z.taken) (sym left_is) ∙ subst (Answers left.taken) e x
-
-  pub takes : (o : Option Step) (d : Step) → o ≡ Some d → Answers left.taken o → here.taken ≡ maybe.some (d.entered, entry_of d)
-  takes o d e x = ap (λ (z : Found). z.taken) (sym left_is) ∙ subst (Answers left.taken) e x
+  left_is : (k : ℕ) → k ≡ class_or_end token → left k ≡ here
+  left_is k e = λ i. leaving (h.rooms_are i) ((e ∙ ap class_or_end x.token_is) i) (returns a) (plan a)
 
   -- no state takes it
-  pub refused_3 : (o : Option Step) (b : Reader) (t : Table) (x : Result (Unit {0}) Fault) → o ≡ None → Answers left.taken o → x ≡ Err (record { refusal = NoProgram; place = place }) →
-      TakenAt w text past p ps b t x
-  refused_3 o b t x e f g =
+  pub refused_at_once : (k : ℕ) → k ≡ class_or_end token → (o : Option Step) → Answers (left k).taken o → o ≡ None →
+      (b : Reader) (t : Table) (y : Result (Unit {0}) Fault) → y ≡ Err (record { refusal = NoProgram; place = place }) → TakenAt w text past p ps b t y
+  refused_at_once k e o f n b t y g =
       subst (TakenAt w text past p ps b t) (sym g)
-      (no_state w text past p ps (plan a) (returns a) a.counts s h.reads (none_takes o e f) ∙ ap (λ z. maybe.some (refused (record { refusal = NoProgram; place = z }))) (sym place_is))
+      (no_state w text past p ps (plan a) (returns a) a.counts s h.reads (ap (λ (z : Found). z.taken) (sym (left_is k e)) ∙ subst (Answers (left k).taken) n f)
+      ∙ ap (λ z. maybe.some (refused (record { refusal = NoProgram; place = z }))) (sym x.place_is))
 
-  -- what the table is told of it
-  pub heard : (d : Step) → here.taken ≡ maybe.some (d.entered, entry_of d) → (l : Reader) (b : Table) (state : State) (of : Bool) (r : UseRole) (count address : ℕ) (x : Result ℕ Fault) →
-      length text ≤ text_limit → Stands text p.offset p.token → of ≡ before_of (tokens_of ps) → state ≡ current (returns a) → meant r ≡ role_at state of → Gives r address →
-      plan l ≡ left.plan → count ≡ (plan l).made.count → address ≡ min count code_limit → TokenNoted w s b r place token x → Heard b x
-  heard d f l b state of r count address x short stands of_is state_is means gives plan_is count_is address_is told =
-      let c : address ≡ min here.plan.made.count code_limit =
-      address_is ∙ ap (λ z. min z code_limit) (count_is ∙ ap (λ (z : Plan). z.made.count) (plan_is ∙ ap (λ (z : Found). z.plan) left_is)) in
-      accounted w text past p ps (plan a) (returns a) a.counts s h.reads b r x short stands (means ∙ (λ i. role_at (state_is i) (of_is i)))
-      (placed_there w text past p ps (plan a) (returns a) a.counts s h.reads d.entered (entry_of d) r f (subst (Gives r) c gives))
-      (subst (λ z. TokenNoted w s b r z (Some p.token) x) place_is (subst (λ z. TokenNoted w s b r place z x) token_is told))
+  -- The state that takes it goes by the step d; those above it are left, and a name has the role r.
+  module _ (l : Reader) (d : Step) (r : UseRole) where
+    pub record Halfway : Type 0 where
+      pub takes : here.taken ≡ maybe.some (d.entered, entry_of d)
+      pub below_is : returns l ≡ here.below
+      pub plan_is : plan l ≡ here.plan
+      pub counts_are : l.counts ≡ a.counts
+      pub kept : Keeps a l
+      pub means : meant r ≡ role_here w text past p ps (plan a) (returns a) a.counts s
+      pub gives : Gives r (min here.plan.made.count code_limit)
 
-  module _ (d : Step) (f : here.taken ≡ maybe.some (d.entered, entry_of d)) (l : Reader) (b : Table) (below_is : returns l ≡ left.below) (plan_is : plan l ≡ left.plan)
-      (counts_are : l.counts ≡ a.counts) where
-    -- it is refused by what the table answers
-    pub refused_4 : (y : Fault) (t : Table) (x : Result (Unit {0}) Fault) → Heard b (Err y) → x ≡ Err y → TakenAt w text past p ps l t x
-    refused_4 y t x n e =
-        subst (TakenAt w text past p ps l t) (sym e) (use_refused w text past p ps (plan a) (returns a) a.counts s h.reads d.entered (entry_of d) b y f n)
+    pub halfway : (k : ℕ) → k ≡ class_or_end token → (o : Option Step) → Answers (left k).taken o → o ≡ Some d → returns l ≡ (left k).below → plan l ≡ (left k).plan →
+        l.counts ≡ a.counts → Keeps a l → (state : State) → state ≡ current (returns a) → meant r ≡ role_at state of →
+        (count address : ℕ) → count ≡ (plan l).made.count → address ≡ min count code_limit → Gives r address → Halfway
+    halfway k e o f n below there counts kept state state_is means count address count_is address_is gives =
+        let z = left_is k e in
+        let plan_is : plan l ≡ here.plan = there ∙ ap (λ (f : Found). f.plan) z in
+        record {
+          takes = ap (λ (f : Found). f.taken) (sym z) ∙ subst (Answers (left k).taken) n f;
+          below_is = below ∙ ap (λ (f : Found). f.below) z;
+          plan_is = plan_is;
+          counts_are = counts;
+          kept = kept;
+          means = means ∙ (λ i. role_at (state_is i) (x.of_is i));
+          gives = subst (Gives r) (address_is ∙ ap (λ n. min n code_limit) (count_is ∙ ap (λ (y : Plan). y.made.count) plan_is)) gives;
+        }
 
-    module _ (r : UseRole) (listed : Bool) (v : ℕ) (means : meant r ≡ role_at (current (returns a)) (before_of (tokens_of ps))) (listed_is : listed ≡ is_listed (meant r)) (n : Heard b (Ok v)) where
-      form : form_refusal_by l.counts (length (returns l) - 1) listed token ≡
-          form_refusal a.counts (ifs_here w text past p ps (plan a) (returns a) a.counts s) (listed_by its_use) p.token
-      form =
-          (λ i. form_refusal_by (counts_are i) (length ((below_is ∙ ap (λ (z : Found). z.below) left_is) i) - 1) ((listed_is ∙ ap is_listed means) i) (token_is i))
-          ∙ ap (λ z. form_refusal a.counts (ifs_here w text past p ps (plan a) (returns a) a.counts s) z p.token) (listed_use _ p.token)
+    module _ (y : Halfway) (b : Table) where
+      -- what the table answers
+      heard : (z : Result ℕ Fault) → TokenNoted w s b r place token z → Accounted w text past p ps (plan a) (returns a) a.counts s h.reads its_use b z
+      heard z told =
+          accounted w text past p ps (plan a) (returns a) a.counts s h.reads b r z x.short x.stands y.means
+          (placed_there w text past p ps (plan a) (returns a) a.counts s h.reads d.entered (entry_of d) r y.takes y.gives)
+          (subst (λ k. TokenNoted w s b r k (Some p.token) z) x.place_is (subst (λ k. TokenNoted w s b r place k z) x.token_is told))
 
-      -- by what is counted
-      pub refused_9 : (y : Fault) (t : Table) (x : Result (Unit {0}) Fault) → FormChecked l.counts (length (returns l) - 1) listed place token (Err y) → x ≡ Err y → TakenAt w text past p ps l t x
-      refused_9 y t x g e =
-          subst (TakenAt w text past p ps l t) (sym e)
-          (form_refused w text past p ps (plan a) (returns a) a.counts s h.reads d.entered (entry_of d) b v y f n (sym form ∙ g.0) (g.1 ∙ place_is))
+      -- it is refused by that
+      pub refused_at_use : (f : Fault) → TokenNoted w s b r place token (Err f) → (n : Reader) (t : Table) (z : Result (Unit {0}) Fault) → z ≡ Err f → TakenAt w text past p ps n t z
+      refused_at_use f told n t z e =
+          subst (TakenAt w text past p ps n t) (sym e)
+          (use_refused w text past p ps (plan a) (returns a) a.counts s h.reads d.entered (entry_of d) b f y.takes (heard (Err f) told))
 
-      -- or it is taken
-      pub onward : (m : Reader) (c : Counts) → FormChecked l.counts (length (returns l) - 1) listed place token (Ok tt) → Keeps a l → TableKeeps s b →
-          plan m ≡ acted (rooms l) d.action d.entered v (plan l) → returns m ≡ pushed_all (return_room l) (plan m).made.count (entry_of d).states (returns l) → Keeps l m →
-          c ≡ counted_by token m.counts → m.counts ≡ l.counts → After w text (p ∷ past) ps (record { assembler = m.assembler; returns = m.returns; counts = c }) b
-      onward m c g kept table_kept acts pushes kept_after counts_after same =
-          let one = one w text past p ps (plan a) (returns a) a.counts s h.reads in
-          let below : returns l ≡ here.below = below_is ∙ ap (λ (z : Found). z.below) left_is in
-          let there : plan l ≡ here.plan = plan_is ∙ ap (λ (z : Found). z.plan) left_is in
-          let room_here : rooms l ≡ reading.room = (λ i. record { marks = kept.assembly.operators_room i; cells = kept.assembly.operands_room i }) ∙ h.rooms_are in
-          let room_after : rooms m ≡ reading.room = (λ i. record { marks = kept_after.assembly.operators_room i; cells = kept_after.assembly.operands_room i }) ∙ room_here in
-          let returns_here : return_room l ≡ reading.return_room = kept.returns_room ∙ h.return_room_is in
-          let x : Plan = acted reading.room d.action d.entered v here.plan in
-          let plan_after : plan m ≡ x = acts ∙ (λ i. acted (room_here i) d.action d.entered v (there i)) in
-          let j : List Coded = pushed_all reading.return_room x.made.count (entry_of d).states here.below in
-          let returns_after : returns m ≡ j = pushes ∙ (λ i. pushed_all (returns_here i) (plan_after i).made.count (entry_of d).states (below i)) in
-          let c_is : c ≡ counted p.token a.counts = counts_after ∙ (λ i. counted_by (token_is i) ((same ∙ counts_are) i)) in
-          let went : Reads w text (p ∷ past) ps x j (counted p.token a.counts) b =
-          one.goes_on d.entered (entry_of d) b v f n.0 n.1 (ap (λ (z : Bor (List ℕ)). z.now) table_kept.text ∙ h.reads.text_is) (sym form ∙ g) in
-          record {
-            rooms_are = room_after;
-            return_room_is = kept_after.returns_room ∙ returns_here;
-            reads =
-                subst (λ z. Reads w text (p ∷ past) ps z (returns m) c b) (sym plan_after) (subst (λ z. Reads w text (p ∷ past) ps x z c b) (sym returns_after)
-                (subst (λ z. Reads w text (p ∷ past) ps x j z b) (sym c_is) went));
-          }
+      module _ (v : ℕ) (told : TokenNoted w s b r place token (Ok v)) (listed : Bool) (listed_is : listed ≡ is_listed (meant r)) where
+        form : form_refusal_by l.counts (length (returns l) - 1) listed token ≡
+            form_refusal a.counts (ifs_here w text past p ps (plan a) (returns a) a.counts s) (listed_by its_use) p.token
+        form =
+            (λ i. form_refusal_by (y.counts_are i) (length (y.below_is i) - 1) ((listed_is ∙ ap is_listed y.means) i) (x.token_is i))
+            ∙ ap (λ z. form_refusal a.counts (ifs_here w text past p ps (plan a) (returns a) a.counts s) z p.token) (listed_use _ p.token)
+
+        -- by what is counted
+        pub refused_by_form : (f : Fault) → FormChecked l.counts (length (returns l) - 1) listed place token (Err f) → (n : Reader) (t : Table) (z : Result (Unit {0}) Fault) → z ≡ Err f →
+            TakenAt w text past p ps n t z
+        refused_by_form f g n t z e =
+            subst (TakenAt w text past p ps n t) (sym e)
+            (form_refused w text past p ps (plan a) (returns a) a.counts s h.reads d.entered (entry_of d) b v f y.takes (heard (Ok v) told) (sym form ∙ g.0) (g.1 ∙ x.place_is))
+
+        -- or it is taken
+        pub onward : FormChecked l.counts (length (returns l) - 1) listed place token (Ok tt) → TableKeeps s b → (m : Reader) (c : Counts) →
+            plan m ≡ acted (rooms l) d.action d.entered v (plan l) → returns m ≡ pushed_all (return_room l) (plan m).made.count (entry_of d).states (returns l) →
+            m.counts ≡ l.counts → Keeps l m → c ≡ counted_by token m.counts → After w text (p ∷ past) ps (record { assembler = m.assembler; returns = m.returns; counts = c }) b
+        onward g table_kept m c acts pushes same kept counts_after =
+            let told_here = heard (Ok v) told in
+            let one = one w text past p ps (plan a) (returns a) a.counts s h.reads in
+            let room_here : rooms l ≡ reading.room = (λ i. record { marks = y.kept.assembly.operators_room i; cells = y.kept.assembly.operands_room i }) ∙ h.rooms_are in
+            let room_after : rooms m ≡ reading.room = (λ i. record { marks = kept.assembly.operators_room i; cells = kept.assembly.operands_room i }) ∙ room_here in
+            let returns_here : return_room l ≡ reading.return_room = y.kept.returns_room ∙ h.return_room_is in
+            let made : Plan = acted reading.room d.action d.entered v here.plan in
+            let plan_after : plan m ≡ made = acts ∙ (λ i. acted (room_here i) d.action d.entered v (y.plan_is i)) in
+            let stacked : List Coded = pushed_all reading.return_room made.made.count (entry_of d).states here.below in
+            let returns_after : returns m ≡ stacked = pushes ∙ (λ i. pushed_all (returns_here i) (plan_after i).made.count (entry_of d).states (y.below_is i)) in
+            let counts_are : c ≡ counted p.token a.counts = counts_after ∙ (λ i. counted_by (x.token_is i) ((same ∙ y.counts_are) i)) in
+            let went : Reads w text (p ∷ past) ps made stacked (counted p.token a.counts) b =
+            one.goes_on d.entered (entry_of d) b v y.takes told_here.0 told_here.1 (ap (λ (z : Bor (List ℕ)). z.now) table_kept.text ∙ h.reads.text_is) (sym form ∙ g) in
+            record {
+              rooms_are = room_after;
+              return_room_is = kept.returns_room ∙ returns_here;
+              reads =
+                  subst (λ z. Reads w text (p ∷ past) ps z (returns m) c b) (sym plan_after) (subst (λ z. Reads w text (p ∷ past) ps made z c b) (sym returns_after)
+                  (subst (λ z. Reads w text (p ∷ past) ps made stacked z b) (sym counts_are) went));
+            }

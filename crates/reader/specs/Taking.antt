@@ -1,5 +1,5 @@
 -- What a reader and a table hold after some of the tokens of a text, and how they take one more.
-use Rattle.std.specs.Prelude.{◌≡◌, ℕ, ◌≤◌, Bool, List, ◌∷◌, length, Some, None, Ok, Err, Option, Result}
+use Rattle.std.specs.Prelude.{◌≡◌, ℕ, ◌≤◌, Bool, List, [], ◌∷◌, length, Some, None, Ok, Err, Option, Result}
 use Rattle.std.proofs.Math.Option as maybe
 use Rattle.fault.specs.declared.Fault.{Fault}
 use Rattle.fault.specs.Refusals.{numbered}
@@ -36,9 +36,24 @@ abbrev pub TakenAt : Words → List ℕ → List Placed → Placed → List Plac
 TakenAt w text past p ps r t (Ok x) = After w text (p ∷ past) ps r t
 TakenAt w text past p ps r t (Err f) = refused_first w text ≡ maybe.some (refused f)
 
--- In each text that is short enough, at each place in it: if the token is the next one there, and it is said whether OF follows it,
--- the token is taken.
+-- A token of the code, at a place and with the word whether OF follows it, is the token p of a text that is short enough, before the tokens ps.
+pub record Comes (text : List ℕ) (p : Placed) (ps : List Placed) (place : ℕ) (token : Option Token) (of-next : Bool) : Type 0 where
+  pub short : length text ≤ text_limit
+  pub token_is : token ≡ Some p.token
+  pub place_is : place ≡ p.offset
+  pub stands : Stands text p.offset p.token
+  pub of_is : of-next ≡ before_of (tokens_of ps)
+
+-- In each text, at each place in it: if the token is the next one there, it is taken.
 abbrev pub TokenTaken : Words → Reader → Reader → Table → Table → ℕ → Option Token → Bool → Result (Unit {0}) Fault → Type 0
 TokenTaken w a b s t place token of-next x =
-    (text : List ℕ) (past : List Placed) (p : Placed) (ps : List Placed) → length text ≤ text_limit → token ≡ Some p.token → place ≡ p.offset → Stands text p.offset p.token →
-    of-next ≡ before_of (tokens_of ps) → After w text past (p ∷ ps) a s → TakenAt w text past p ps b t x
+    (text : List ℕ) (past : List Placed) (p : Placed) (ps : List Placed) → Comes text p ps place token of-next → After w text past (p ∷ ps) a s → TakenAt w text past p ps b t x
+
+-- after all tokens of a text nothing is refused, or the answer is the first refusal of 3 to 11, with its place
+abbrev pub EndedAt : Words → List ℕ → Result (Unit {0}) Fault → Type 0
+EndedAt w text (Ok x) = refused_first w text ≡ maybe.none
+EndedAt w text (Err f) = refused_first w text ≡ maybe.some (refused f)
+
+-- In each text: if the reader has taken all its tokens, it is told whether the text is refused.
+abbrev pub TextEnds : Reader → ℕ → Result (Unit {0}) Fault → Type 0
+TextEnds r place x = (w : Words) (text : List ℕ) (past : List Placed) (t : Table) → place ≡ length text → After w text past [] r t → EndedAt w text x

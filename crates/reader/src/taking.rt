@@ -3,7 +3,7 @@ ghost use Rattle.std.specs.Prelude.{◌≡◌, ◌-◌, length};
 ghost use Rattle.token.specs.Views.{meant};
 ghost use Rattle.symbols.specs.Table.{Keeps as table_keeps};
 ghost use Rattle.reader.specs.Views.{returns, Keeps};
-ghost use Rattle.reader.specs.Taking.{FormChecked, TokenTaken};
+ghost use Rattle.reader.specs.Taking.{FormChecked, TextEnds, TokenTaken};
 
 use crate::counting::{after_token, check_form};
 use crate::naming::{note, role};
@@ -53,5 +53,18 @@ impl<'c, 'o, 'm, 'r> Reader<'c, 'o, 'm, 'r> {
         self.enter(step, reference);
         self.counts = after_token(self.counts, lexeme.token);
         Ok(())
+    }
+
+    // At the end of the tokens, which stands at this place: refusal 3 there, where a state still waits for a token.
+    pub fn finish(&self, place: usize) -> Result<(), Fault>
+        ensures { TextEnds self.now place result }
+    {
+        match self.returns.top() {
+            Some(_) => Err(Fault {
+                refusal: Refusal::NoProgram,
+                place,
+            }),
+            None => Ok(()),
+        }
     }
 }
