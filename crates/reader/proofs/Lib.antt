@@ -1,2 +1,5 @@
+mod Assumed
+mod End
 mod Leaving
 mod Noted
+mod OneToken

@@ -1,3 +1,4 @@
 pub mod Tokens
 pub mod Views
 pub mod Telling
+pub mod Taking

@@ -19,14 +19,14 @@ use stack::stack::Stack;
 
 impl<'c, 'o, 'm, 'r> Reader<'c, 'o, 'm, 'r> {
     // The state on top; without one, that after a whole command.
-    fn current(&self) -> State
+    pub(crate) fn current(&self) -> State
         ensures { result ≡ current (returns self.now) }
     {
         self.returns.top().map_or(State::Next, |top| top.state)
     }
 
     // States are left, each with its action, until one takes a token of this class: what that state does. `None` where none takes it.
-    fn leave(&mut self, class: usize) -> Option<Step>
+    pub(crate) fn leave(&mut self, class: usize) -> Option<Step>
         ensures answer { Answers (leaving (rooms self.old) «class» (returns self.old) (plan self.old)).taken result }
         ensures below { returns self.new ≡ (leaving (rooms self.old) «class» (returns self.old) (plan self.old)).below }
         ensures plan { plan self.new ≡ (leaving (rooms self.old) «class» (returns self.old) (plan self.old)).plan }
@@ -63,7 +63,7 @@ impl<'c, 'o, 'm, 'r> Reader<'c, 'o, 'm, 'r> {
 
     // A state takes a token that refers to a cell or a symbol: its action is carried out, and the states that stand in its place
     // come on the stack.
-    fn enter(&mut self, step: Step, reference: u16)
+    pub(crate) fn enter(&mut self, step: Step, reference: u16)
         ensures plan { plan self.new ≡ acted (rooms self.old) step.action step.entered reference (plan self.old) }
         ensures returns { returns self.new ≡ pushed_all (return_room self.old) (plan self.new).made.count (entry_of step).states (returns self.old) }
         ensures counts { self.new.counts ≡ self.old.counts }

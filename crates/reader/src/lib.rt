@@ -8,3 +8,4 @@ pub mod engine;
 pub mod naming;
 pub mod reader;
 pub mod step;
+pub mod taking;
