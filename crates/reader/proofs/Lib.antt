@@ -1,4 +1,3 @@
-mod Assumed
 mod End
 mod Leaving
 mod Noted

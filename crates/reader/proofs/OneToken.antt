@@ -10,7 +10,7 @@ use Rattle.fault.specs.Refusals.{numbered}
 use Rattle.token.specs.Tokens.{Token, name, number, keyword, sign, other, Placed}
 use Rattle.token.specs.Reading.{Stands}
 use Rattle.arithmetic.specs.Words.{Words}
-use Rattle.limits.specs.Uses.{Role, Use, made, is_listed, before_of}
+use Rattle.limits.specs.Uses.{Role, Use, made, is_listed}
 use Rattle.limits.specs.Rules.{text_limit, code_limit, tokens_of}
 use Rattle.emission.specs.declared.state.State.{State}
 use Rattle.emission.specs.Table.{Entry}
@@ -32,9 +32,9 @@ use Rattle.reader.specs.declared.reader.Reader.{Reader}
 use Rattle.reader.specs.declared.step.Step.{Step}
 use Rattle.reader.specs.Views.{plan, rooms, returns, return_room, Keeps, entry_of, Answers}
 use Rattle.reader.specs.Tokens.{listed_name, counted_by, form_refusal_by}
-use Rattle.reader.specs.Telling.{Noted, Short, TokenNoted}
+use Rattle.reader.specs.Telling.{Noted, TokenNoted}
 use Rattle.reader.specs.Taking.{refused, FormChecked, After, TakenAt, Comes}
-use Rattle.reader.proofs.Assumed.{reading_on}
+use Rattle.reading.proofs.Onward.{onward as reading_on}
 
 -- the error in place of no value
 pub no_value : {T : Type 0} (o : Option T) (f g : Fault) → Err g ≡ ok_or o f → o ≡ None → g ≡ f
