@@ -18,8 +18,8 @@ use token::tokens::Lexeme;
 const WORDS: u16 = 4_096;
 
 impl<'c, 'o, 'm, 'r> Reader<'c, 'o, 'm, 'r> {
-    // Refuses with 9 to 11 at a token that was left the states below the current one; `listed` says that a name is a label in a list
-    // after OF.
+    // Refuses with 9 to 11 at a token. The state that takes it is off the stack, which is then, where IF may come, one deeper than IFs
+    // are open. `listed` says that a name is a label in a list after OF.
     fn check(&self, listed: bool, lexeme: Lexeme<'_>) -> Result<(), Fault>
         ensures { FormChecked self.now.counts (length (returns self.now) - 1) listed lexeme.entry.offset (meant lexeme.entry.token) result }
     {
