@@ -1,3 +1,4 @@
+mod Beginning
 mod End
 mod Leaving
 mod Noted

@@ -1,9 +1,10 @@
 -- What a reader holds, and what calls keep of the memory that it is lent.
-use Rattle.std.specs.Prelude.{◌≡◌, ℕ, List, reverse, Some, None, Option}
+use Rattle.std.specs.Prelude.{◌≡◌, ℕ, List, [], reverse, Some, None, Option}
 use Rattle.std.proofs.Math.Option as maybe
 use Rattle.stack.specs.Entries as stack
 use Rattle.emission.specs.Table.{Entry}
-use Rattle.assembly.specs.Plans.{Plan, Rooms}
+use Rattle.trees.specs.declared.relation.Relation.TheVariants.{Greater}
+use Rattle.assembly.specs.Plans.{Plan, Rooms, words, work, planned}
 use Rattle.assembler.specs.Views as assembler
 use Rattle.reading.specs.declared.returns.Return.{Return}
 use Rattle.reader.specs.declared.reader.Reader.{Reader}
@@ -20,6 +21,10 @@ returns r = stack.entries r.returns
 
 abbrev pub return_room : Reader → ℕ
 return_room r = stack.room r.returns
+
+-- no word of a code yet, and nothing that waits or is kept
+abbrev pub nothing_made : List ℕ → Plan
+nothing_made code = planned (words code 0) (work [] [] 0) 0 0 Greater
 
 -- it is the same memory, as long as it was
 pub record Keeps (a b : Reader) : Type 0 where

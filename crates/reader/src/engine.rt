@@ -1,10 +1,11 @@
 // The engine: states on a stack of returns, and the table that says what each does at a token.
-ghost use Rattle.std.specs.Prelude.{◌≡◌, [], ◌∷◌};
+ghost use Rattle.std.specs.Prelude.{◌≡◌, [], ◌∷◌, length, drop};
 ghost use Rattle.assembly.specs.Plans.{acted};
+ghost use Rattle.emission.specs.declared.state.State.TheVariants.{Next, Start};
 ghost use Rattle.reading.specs.Counting.{counts};
 ghost use Rattle.reading.specs.Reads.{current};
 ghost use Rattle.reading.specs.Steps.{leaving, pushed_all};
-ghost use Rattle.reader.specs.Views.{plan, rooms, returns, return_room, Keeps, entry_of, Answers};
+ghost use Rattle.reader.specs.Views.{plan, nothing_made, rooms, returns, return_room, Keeps, entry_of, Answers};
 
 use crate::counting::no_counts;
 use crate::reader::Reader;
@@ -17,7 +18,42 @@ use emission::table::entry;
 use reading::returns::Return;
 use stack::stack::Stack;
 
+// A state that is entered at the first word.
+fn begun(state: State) -> Return
+    ensures { result ≡ record { state = state; address = 0 } }
+{
+    Return { state, address: 0 }
+}
+
 impl<'c, 'o, 'm, 'r> Reader<'c, 'o, 'm, 'r> {
+    // A reader before the first token of a text: nothing is made or counted, and the two states that the translator begins with are
+    // on the stack.
+    pub fn new(
+        code: &'c mut [u16],
+        operands: &'o mut [u16],
+        operators: &'m mut [Mark],
+        states: &'r mut [Return],
+    ) -> Reader<'c, 'o, 'm, 'r>
+        ensures plan { plan result ≡ nothing_made code.old }
+        ensures returns { returns result ≡ pushed_all (length states.old) 0 (Start ∷ Next ∷ []) [] }
+        ensures counts { result.counts ≡ counts 0 0 0 }
+        ensures code { result.assembler.code.ghost_name ≡ code.entry.ghost_name }
+        ensures operands { (result.assembler.operands.items.ghost_name ≡ operands.entry.ghost_name) × (result.assembler.operands.items.now ≡ operands.old) }
+        ensures operators { (result.assembler.operators.items.ghost_name ≡ operators.entry.ghost_name) × (result.assembler.operators.items.now ≡ operators.old) }
+        ensures lent_states { result.returns.items.ghost_name ≡ states.entry.ghost_name }
+        ensures states_room { return_room result ≡ length states.old }
+        ensures states_beyond { drop 2 result.returns.items.now ≡ drop 2 states.old }
+    {
+        let mut returns = Stack::new(states);
+        let _ = returns.push(begun(State::Next));
+        let _ = returns.push(begun(State::Start));
+        Reader {
+            assembler: Assembler::new(code, operands, operators),
+            returns,
+            counts: no_counts(),
+        }
+    }
+
     // The state on top; without one, that after a whole command.
     pub(crate) fn current(&self) -> State
         ensures { result ≡ current (returns self.now) }
