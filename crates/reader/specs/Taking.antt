@@ -1,14 +1,16 @@
 -- What a reader and a table hold after some of the tokens of a text, and how they take one more.
-use Rattle.std.specs.Prelude.{◌≡◌, ℕ, ◌≤◌, Bool, List, [], ◌∷◌, length, Some, None, Ok, Err, Option, Result}
+use Rattle.std.specs.Prelude.{◌≡◌, ℕ, ◌≤◌, Bool, List, [], ◌∷◌, length, replicate, Some, None, Ok, Err, Option, Result}
 use Rattle.std.proofs.Math.Option as maybe
 use Rattle.fault.specs.declared.Fault.{Fault}
 use Rattle.fault.specs.Refusals.{numbered}
 use Rattle.token.specs.Tokens.{Token, Placed}
+use Rattle.token.specs.Lexis.{tokens}
 use Rattle.token.specs.Reading.{Stands}
 use Rattle.arithmetic.specs.Words.{Words}
 use Rattle.limits.specs.Uses.{before_of}
-use Rattle.limits.specs.Rules.{text_limit, tokens_of, Refused}
+use Rattle.limits.specs.Rules.{text_limit, code_limit, tokens_of, Refused}
 use Rattle.symbols.specs.declared.table.Table.{Table}
+use Rattle.symbols.specs.Table.{Holds}
 use Rattle.reading.specs.declared.counts.Counts.{Counts}
 use Rattle.reading.specs.Reads as reading
 use Rattle.reading.specs.Reads.{refused_first, Reads}
@@ -30,6 +32,12 @@ pub record After (w : Words) (text : List ℕ) (past rest : List Placed) (r : Re
   pub rooms_are : rooms r ≡ reading.room
   pub return_room_is : return_room r ≡ reading.return_room
   pub reads : Reads w text past rest (plan r) (returns r) r.counts t
+
+-- In each text: a reader that is made over a code of 4,096 zeros, with the room that is wanted, and a table with no uses hold what no token makes.
+abbrev pub Begins : List ℕ → Reader → Type 0
+Begins code r =
+    (w : Words) (text : List ℕ) (t : Table) → code ≡ replicate code_limit 0 → rooms r ≡ reading.room → return_room r ≡ reading.return_room →
+    t.text.now ≡ text → Holds w t [] → After w text [] (tokens text) r t
 
 -- after one token more they hold what this makes too, or the answer is the first refusal of 3 to 11, with its place
 abbrev pub TakenAt : Words → List ℕ → List Placed → Placed → List Placed → Reader → Table → Result (Unit {0}) Fault → Type 0

@@ -6,6 +6,7 @@ ghost use Rattle.reading.specs.Counting.{counts};
 ghost use Rattle.reading.specs.Reads.{current};
 ghost use Rattle.reading.specs.Steps.{leaving, pushed_all};
 ghost use Rattle.reader.specs.Views.{plan, nothing_made, rooms, returns, return_room, Keeps, entry_of, Answers};
+ghost use Rattle.reader.specs.Taking.{Begins};
 
 use crate::counting::no_counts;
 use crate::reader::Reader;
@@ -43,6 +44,7 @@ impl<'c, 'o, 'm, 'r> Reader<'c, 'o, 'm, 'r> {
         ensures lent_states { result.returns.items.ghost_name ≡ states.entry.ghost_name }
         ensures states_room { return_room result ≡ length states.old }
         ensures states_beyond { drop 2 result.returns.items.now ≡ drop 2 states.old }
+        ensures begins { Begins code.old result }
     {
         let mut returns = Stack::new(states);
         let _ = returns.push(begun(State::Next));
