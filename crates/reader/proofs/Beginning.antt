@@ -1,14 +1,13 @@
 -- A reader before the first token of a text.
-use Rattle.std.proofs.Common.{◌≡◌, ℕ, suc, ◌≤◌, Bool, true, false, if◌then◌else◌, List, [], ◌∷◌, length, take, drop, map, replicate, reverse, sym, refl, ap, ◌∙◌, subst, arith}
+use Rattle.std.proofs.Common.{◌≡◌, ℕ, suc, ◌≤◌, Bool, true, false, if◌then◌else◌, List, [], ◌∷◌, length, take, drop, replicate, sym, refl, ap, ◌∙◌, subst, arith}
 use Rattle.std.proofs.lemmas.List.{length-take-le, length-reverse, length-replicate}
 use Rattle.stack.specs.declared.stack.Stack.{Stack}
 use Rattle.stack.specs.Entries.{entries, Keeps}
-use Rattle.token.specs.Tokens.{Token, Placed}
+use Rattle.token.specs.Tokens.{Token}
 use Rattle.token.specs.Lexis.{tokens}
 use Rattle.arithmetic.specs.Words.{Words}
 use Rattle.limits.specs.Uses.{Use}
 use Rattle.limits.specs.Rules.{code_limit, tokens_of}
-use Rattle.emission.specs.declared.state.State.{State}
 use Rattle.emission.specs.declared.state.State.TheVariants.{Start, Next, ToName}
 use Rattle.emission.specs.Draft.{blank}
 use Rattle.emission.specs.Table.{Translator, outset}
@@ -17,7 +16,7 @@ use Rattle.symbols.specs.Table.{Holds}
 use Rattle.assembly.specs.Plans.{Plan}
 use Rattle.assembly.specs.Drawn.{Drawn}
 use Rattle.reading.specs.References.{neither}
-use Rattle.reading.specs.Steps.{return_code, pushed_all}
+use Rattle.reading.specs.Steps.{pushed_all}
 use Rattle.reading.specs.Counting.{counts, Counted}
 use Rattle.reading.specs.Reads as reading
 use Rattle.reading.specs.Reads.{room, cells_of, symbol_of, KeptNext, KnownNext}

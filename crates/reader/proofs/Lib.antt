@@ -3,3 +3,4 @@ mod End
 mod Leaving
 mod Noted
 mod OneToken
+mod Whole

@@ -1,5 +1,5 @@
 -- What a reader and a table hold after some of the tokens of a text, and how they take one more.
-use Rattle.std.specs.Prelude.{◌≡◌, ℕ, ◌≤◌, Bool, List, [], ◌∷◌, length, replicate, Some, None, Ok, Err, Option, Result}
+use Rattle.std.specs.Prelude.{◌≡◌, ℕ, ◌≤◌, Bool, List, [], ◌∷◌, reverse, length, replicate, Some, None, Ok, Err, Option, Result}
 use Rattle.std.proofs.Math.Option as maybe
 use Rattle.fault.specs.declared.Fault.{Fault}
 use Rattle.fault.specs.Refusals.{numbered}
@@ -65,3 +65,12 @@ EndedAt w text (Err f) = refused_first w text ≡ maybe.some (refused f)
 -- In each text: if the reader has taken all its tokens, it is told whether the text is refused.
 abbrev pub TextEnds : Reader → ℕ → Result (Unit {0}) Fault → Type 0
 TextEnds r place x = (w : Words) (text : List ℕ) (past : List Placed) (t : Table) → place ≡ length text → After w text past [] r t → EndedAt w text x
+
+-- a reader and a table hold what all tokens of a text make, and it is not refused, or the answer is the first refusal of 3 to 11, with its place
+abbrev pub WholeAt : Words → List ℕ → Reader → Table → Result (Unit {0}) Fault → Type 0
+WholeAt w text r t (Ok x) = After w text (reverse (tokens text)) [] r t × (refused_first w text ≡ maybe.none)
+WholeAt w text r t (Err f) = refused_first w text ≡ maybe.some (refused f)
+
+-- If a text is short enough, and the reader and the table hold what none of its tokens makes, it is taken as a whole.
+abbrev pub TextTaken : Words → Reader → Reader → Table → Table → List ℕ → Result (Unit {0}) Fault → Type 0
+TextTaken w a b s t text x = length text ≤ text_limit → After w text [] (tokens text) a s → WholeAt w text b t x

@@ -3,15 +3,16 @@ ghost use Rattle.std.specs.Prelude.{◌≡◌, ◌-◌, length};
 ghost use Rattle.token.specs.Views.{meant};
 ghost use Rattle.symbols.specs.Table.{Keeps as table_keeps};
 ghost use Rattle.reader.specs.Views.{returns, Keeps};
-ghost use Rattle.reader.specs.Taking.{FormChecked, TextEnds, TokenTaken};
+ghost use Rattle.reader.specs.Taking.{FormChecked, TextEnds, TextTaken, TokenTaken};
 
-use crate::counting::{after_token, check_form};
+use crate::counting::{after_token, check_form, is_end, is_of};
 use crate::naming::{note, role};
 use crate::reader::Reader;
 use arithmetic::Arithmetic;
 use emission::class::class;
 use fault::{Fault, Refusal};
 use symbols::table::Table;
+use token::lexer::Lexer;
 use token::tokens::Lexeme;
 
 // The most words of code; no label stands at a higher address.
@@ -66,5 +67,25 @@ impl<'c, 'o, 'm, 'r> Reader<'c, 'o, 'm, 'r> {
             }),
             None => Ok(()),
         }
+    }
+
+    // Takes a whole text, which is the table's, with one token ahead: up to its first refusal, or to its end.
+    pub fn read<N: Arithmetic>(
+        &mut self,
+        table: &mut Table<'_, '_, '_>,
+        text: &[u8],
+    ) -> Result<(), Fault>
+        ensures reader_kept { Keeps self.old self.new }
+        ensures table_kept { table_keeps table.old table.new }
+        ensures taken { TextTaken N.Arithmetic.words self.old self.new table.old table.new text.now result }
+    {
+        let mut lexer = Lexer::new(text);
+        let mut lexeme = lexer.next();
+        'tokens: while !is_end(lexeme.token) {
+            let next = lexer.next();
+            self.take::<N>(table, lexeme, is_of(next.token))?;
+            lexeme = next;
+        }
+        self.finish(lexeme.offset)
     }
 }
