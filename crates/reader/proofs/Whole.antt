@@ -75,7 +75,7 @@ module _ (w : Words) (text : List ℕ) where
           let p : Placed = record { offset = at; token = z } in (
             p,
             subst (λ ps. TakenAt w text past p ps c u x) (sym (given l m r g))
-            (k text past p (rest_of l) (record { short = short; token_is = refl; place_is = refl; stands = f; of_is = n ∙ ap is_of g.first ∙ of_first (rest_of l) }) h),
+                (k text past p (rest_of l) (record { short = short; token_is = refl; place_is = refl; stands = f; of_is = n ∙ ap is_of g.first ∙ of_first (rest_of l) }) h),
           )
 
   -- behind the last
