@@ -3,4 +3,5 @@ mod End
 mod Leaving
 mod Noted
 mod OneToken
+mod Settled
 mod Whole

@@ -87,6 +87,6 @@ module _ (w : Words) (text : List ℕ) where
       past_is : past ≡ reverse (tokens text)
       past_is = sym (reverse-reverse past) ∙ ap reverse h.reads.whole
 
-      go : (x : Result (Unit {0}) Fault) → EndedAt w text x → WholeAt w text b t x
-      go (Ok z) y = (subst (λ ps. After w text ps [] b t) past_is h, y)
+      go : (x : Result (Unit {0}) Fault) → EndedAt w text b x → WholeAt w text b t x
+      go (Ok z) y = (subst (λ ps. After w text ps [] b t) past_is h, y.0, y.1)
       go (Err z) y = y

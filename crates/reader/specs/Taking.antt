@@ -57,18 +57,18 @@ abbrev pub TokenTaken : Words → Reader → Reader → Table → Table → ℕ 
 TokenTaken w a b s t place token of-next x =
     (text : List ℕ) (past : List Placed) (p : Placed) (ps : List Placed) → Comes text p ps place token of-next → After w text past (p ∷ ps) a s → TakenAt w text past p ps b t x
 
--- after all tokens of a text nothing is refused, or the answer is the first refusal of 3 to 11, with its place
-abbrev pub EndedAt : Words → List ℕ → Result (Unit {0}) Fault → Type 0
-EndedAt w text (Ok x) = refused_first w text ≡ maybe.none
-EndedAt w text (Err f) = refused_first w text ≡ maybe.some (refused f)
+-- after all tokens of a text no state is left and nothing is refused, or the answer is the first refusal of 3 to 11, with its place
+abbrev pub EndedAt : Words → List ℕ → Reader → Result (Unit {0}) Fault → Type 0
+EndedAt w text r (Ok x) = (refused_first w text ≡ maybe.none) × (returns r ≡ [])
+EndedAt w text r (Err f) = refused_first w text ≡ maybe.some (refused f)
 
 -- In each text: if the reader has taken all its tokens, it is told whether the text is refused.
 abbrev pub TextEnds : Reader → ℕ → Result (Unit {0}) Fault → Type 0
-TextEnds r place x = (w : Words) (text : List ℕ) (past : List Placed) (t : Table) → place ≡ length text → After w text past [] r t → EndedAt w text x
+TextEnds r place x = (w : Words) (text : List ℕ) (past : List Placed) (t : Table) → place ≡ length text → After w text past [] r t → EndedAt w text r x
 
--- a reader and a table hold what all tokens of a text make, and it is not refused, or the answer is the first refusal of 3 to 11, with its place
+-- a reader and a table hold what all tokens of a text make, it is not refused, and no state is left, or the answer is the first refusal of 3 to 11, with its place
 abbrev pub WholeAt : Words → List ℕ → Reader → Table → Result (Unit {0}) Fault → Type 0
-WholeAt w text r t (Ok x) = After w text (reverse (tokens text)) [] r t × (refused_first w text ≡ maybe.none)
+WholeAt w text r t (Ok x) = After w text (reverse (tokens text)) [] r t × (refused_first w text ≡ maybe.none) × (returns r ≡ [])
 WholeAt w text r t (Err f) = refused_first w text ≡ maybe.some (refused f)
 
 -- If a text is short enough, and the reader and the table hold what none of its tokens makes, it is taken as a whole.

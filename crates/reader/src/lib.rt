@@ -7,5 +7,6 @@ pub mod counting;
 pub mod engine;
 pub mod naming;
 pub mod reader;
+pub mod settling;
 pub mod step;
 pub mod taking;

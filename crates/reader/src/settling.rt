@@ -1,0 +1,49 @@
+// Settling a code: jumps to labels get their addresses from the table of symbols.
+ghost use Rattle.std.specs.Prelude.{◌≡◌, ◌++◌, map, take, drop};
+ghost use Rattle.reader.specs.Settling.{address_by, settled_by, InUse};
+
+use assembler::word::{Jump, instruction_word};
+use runs::instruction::Instruction;
+use symbols::table::Table;
+
+// The jumps to labels that a code has until it is settled, and how many operands there are.
+const ALWAYS: u16 = Jump::Always as u16;
+
+const IF_ZERO: u16 = Jump::IfZero as u16;
+
+const OPERANDS: u16 = 4_096;
+
+// The address of the label that is the symbol at an index. Where there is none it is 0.
+fn address(table: &Table<'_, '_, '_>, index: u16) -> u16
+    ensures { result ≡ address_by table.now index }
+{
+    table.symbol(index).map_or(0, |symbol| symbol.at)
+}
+
+// A word of a code: a jump to a label leads to its address, and any other word stays.
+fn settled(word: u16, table: &Table<'_, '_, '_>) -> u16
+    ensures { result ≡ settled_by table.now word }
+{
+    let index = word % OPERANDS;
+    match word / OPERANDS {
+        ALWAYS => instruction_word(Instruction::Bru(address(table, index))),
+        IF_ZERO => instruction_word(Instruction::Brz(address(table, index))),
+        _ => word,
+    }
+}
+
+// The jumps to labels lead to their addresses: each of the first `count` words of a code is settled by the table of symbols.
+// Other words stay.
+pub fn settle(code: &mut [u16], count: u16, table: &Table<'_, '_, '_>)
+    ensures { code.new ≡ map (settled_by table.now) (take count code.old) ++ drop count code.old }
+{
+    // By its index: of what is written through iter_mut nothing is known behind the loop.
+    'words: for index in 0..code.len().min(usize::from(count)) {
+        code[index] = settled(code[index], table);
+    }
+}
+
+// Where the symbol of a word is in use, the word is settled by what memory holds of the table, whatever stands beyond.
+pub fn symbols_in_use_settle()
+    ensures { InUse }
+{}
