@@ -40,14 +40,15 @@ const STOP: u16 = 3;
 // An operand has 12 bits.
 const OPERANDS: u16 = 4_096;
 
-fn operation(word: u16) -> u16
+// A word's operation.
+pub fn operation(word: u16) -> u16
     ensures { result ≡ word / 4096 }
 {
     word >> 12
 }
 
-// The low 12 bits.
-fn low_bits(word: u16) -> u16
+// A word's operand: its low 12 bits.
+pub fn low_bits(word: u16) -> u16
     ensures { result ≡ word % 4096 }
 {
     word & 0xfff

@@ -3,15 +3,14 @@ ghost use Rattle.std.specs.Prelude.{◌≡◌, ◌++◌, map, take, drop};
 ghost use Rattle.reader.specs.Settling.{address_by, settled_by, InUse};
 
 use assembler::word::{Jump, instruction_word};
+use machine::word::{low_bits, operation};
 use runs::instruction::Instruction;
 use symbols::table::Table;
 
-// The jumps to labels that a code has until it is settled, and how many operands there are.
+// The jumps to labels that a code has until it is settled.
 const ALWAYS: u16 = Jump::Always as u16;
 
 const IF_ZERO: u16 = Jump::IfZero as u16;
-
-const OPERANDS: u16 = 4_096;
 
 // The address of the label that is the symbol at an index. Where there is none it is 0.
 fn address(table: &Table<'_, '_, '_>, index: u16) -> u16
@@ -24,8 +23,8 @@ fn address(table: &Table<'_, '_, '_>, index: u16) -> u16
 fn settled(word: u16, table: &Table<'_, '_, '_>) -> u16
     ensures { result ≡ settled_by table.now word }
 {
-    let index = word % OPERANDS;
-    match word / OPERANDS {
+    let index = low_bits(word);
+    match operation(word) {
         ALWAYS => instruction_word(Instruction::Bru(address(table, index))),
         IF_ZERO => instruction_word(Instruction::Brz(address(table, index))),
         _ => word,
