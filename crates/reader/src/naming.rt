@@ -3,6 +3,7 @@ ghost use Rattle.std.specs.Prelude.{◌≡◌, min, length};
 ghost use Rattle.token.specs.Views.{meant};
 ghost use Rattle.symbols.specs.Entries.{meant as use_meant};
 ghost use Rattle.symbols.specs.Table.{Gives, Keeps};
+ghost use Rattle.reader.specs.Settling.{address_by};
 ghost use Rattle.reader.specs.Telling.{CellRead, NameNoted, NumberNoted, TokenNoted};
 ghost use Rattle.reading.specs.Reads.{role_at};
 
@@ -45,10 +46,11 @@ fn spelling(place: usize, bytes: &[u8]) -> Spelling
     }
 }
 
-// The cell of the symbol at an index. Where there is none it is 0, which no action reads; an Option would be taken apart at each action
-// in place of here.
-fn cell(table: &Table<'_, '_, '_>, index: u16) -> u16
-    ensures { CellRead table.now index result }
+// The cell or, of a label, the address of the symbol at an index. Where there is none it is 0, which no action reads; an Option would be
+// taken apart at each action in place of here.
+pub(crate) fn cell_or_address(table: &Table<'_, '_, '_>, index: u16) -> u16
+    ensures cell { CellRead table.now index result }
+    ensures address { result ≡ address_by table.now index }
 {
     table.symbol(index).map_or(0, |symbol| symbol.at)
 }
@@ -67,7 +69,7 @@ fn note_name(
     if role.is_label() {
         return Ok(index);
     }
-    Ok(cell(table, index))
+    Ok(cell_or_address(table, index))
 }
 
 // Tells it of a number: its cell, or refusal 7.
@@ -80,7 +82,7 @@ fn note_number<N: Arithmetic>(
     ensures told { NumberNoted N.Arithmetic.words table.old table.new place bytes.now result }
 {
     let index = table.note_number::<N>(spelling(place, bytes))?;
-    Ok(cell(table, index))
+    Ok(cell_or_address(table, index))
 }
 
 // Tells it of a token, a name in this role: what it refers to. A token that is neither a name nor a number refers to nothing, which is 0:

@@ -1,7 +1,8 @@
 // Settling a code: jumps to labels get their addresses from the table of symbols.
 ghost use Rattle.std.specs.Prelude.{◌≡◌, ◌++◌, map, take, drop};
-ghost use Rattle.reader.specs.Settling.{address_by, settled_by, InUse};
+ghost use Rattle.reader.specs.Settling.{settled_by, InUse, Settles};
 
+use crate::naming::cell_or_address;
 use assembler::word::{Jump, instruction_word};
 use machine::word::{low_bits, operation};
 use runs::instruction::Instruction;
@@ -12,21 +13,14 @@ const ALWAYS: u16 = Jump::Always as u16;
 
 const IF_ZERO: u16 = Jump::IfZero as u16;
 
-// The address of the label that is the symbol at an index. Where there is none it is 0.
-fn address(table: &Table<'_, '_, '_>, index: u16) -> u16
-    ensures { result ≡ address_by table.now index }
-{
-    table.symbol(index).map_or(0, |symbol| symbol.at)
-}
-
 // A word of a code: a jump to a label leads to its address, and any other word stays.
 fn settled(word: u16, table: &Table<'_, '_, '_>) -> u16
     ensures { result ≡ settled_by table.now word }
 {
     let index = low_bits(word);
     match operation(word) {
-        ALWAYS => instruction_word(Instruction::Bru(address(table, index))),
-        IF_ZERO => instruction_word(Instruction::Brz(address(table, index))),
+        ALWAYS => instruction_word(Instruction::Bru(cell_or_address(table, index))),
+        IF_ZERO => instruction_word(Instruction::Brz(cell_or_address(table, index))),
         _ => word,
     }
 }
@@ -42,7 +36,12 @@ pub fn settle(code: &mut [u16], count: u16, table: &Table<'_, '_, '_>)
     }
 }
 
-// Where the symbol of a word is in use, the word is settled by what memory holds of the table, whatever stands beyond.
+// Where the symbol of a jump is in use, the word is settled by what memory holds of the table, whatever stands beyond.
 pub fn symbols_in_use_settle()
     ensures { InUse }
+{}
+
+// The code in the making of a whole text becomes the code of its program.
+pub fn codes_settle()
+    ensures { Settles }
 {}

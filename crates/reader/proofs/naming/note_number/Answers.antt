@@ -19,7 +19,7 @@ returns-clause-told g c = λ seen address h short sound d.
     let t = c.note_number.new.self in
     let w = g.N.Arithmetic.words in
     let i = c.in_ok-index.index in
-    cell_noted w t seen (mention number_use a.bytes.now a.place address) i c.cell.result
+    cell_noted w t seen (mention number_use a.bytes.now a.place address) i c.cell_or_address.result
     (digits_told w a.table.now t a.bytes.now a.place c.spelling.result (Ok i) c.in_ok-index.ensures.told c.spelling.ensures.place c.spelling.ensures.length seen address h short sound d)
     refl
-    c.cell.ensures
+    c.cell_or_address.ensures.cell
