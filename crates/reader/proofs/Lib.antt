@@ -1,4 +1,5 @@
 mod Beginning
+mod Checked
 mod End
 mod Leaving
 mod Noted

@@ -1,9 +1,11 @@
-// Settling a code: jumps to labels get their addresses from the table of symbols.
+// Settling a code: jumps to labels get their addresses from the table of symbols, once none of the refusals stands.
 ghost use Rattle.std.specs.Prelude.{◌≡◌, ◌++◌, map, take, drop};
-ghost use Rattle.reader.specs.Settling.{settled_by, InUse, Settles};
+ghost use Rattle.reader.specs.Settling.{settled_by, InUse, Settles, WholeChecked};
 
 use crate::naming::cell_or_address;
+use crate::taking::WORDS;
 use assembler::word::{Jump, instruction_word};
+use fault::{Fault, Refusal};
 use machine::word::{low_bits, operation};
 use runs::instruction::Instruction;
 use symbols::table::Table;
@@ -22,6 +24,24 @@ fn settled(word: u16, table: &Table<'_, '_, '_>) -> u16
         ALWAYS => instruction_word(Instruction::Bru(cell_or_address(table, index))),
         IF_ZERO => instruction_word(Instruction::Brz(cell_or_address(table, index))),
         _ => word,
+    }
+}
+
+// Refusal 12 or 13 of a text that was read: a label that stands before no command, at its earliest mention, or else a code of more
+// than 4,096 words. `count` is the reader's count of words.
+pub fn check_whole(table: &Table<'_, '_, '_>, count: u16) -> Result<(), Fault>
+    ensures { WholeChecked table.now count result }
+{
+    match table.first_pending() {
+        Some(place) => Err(Fault {
+            refusal: Refusal::MissingLabel,
+            place,
+        }),
+        None if count > WORDS => Err(Fault {
+            refusal: Refusal::LongCode,
+            place: 0,
+        }),
+        None => Ok(()),
     }
 }
 

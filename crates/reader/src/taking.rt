@@ -16,7 +16,7 @@ use token::lexer::Lexer;
 use token::tokens::Lexeme;
 
 // The most words of code; no label stands at a higher address.
-const WORDS: u16 = 4_096;
+pub(crate) const WORDS: u16 = 4_096;
 
 impl<'c, 'o, 'm, 'r> Reader<'c, 'o, 'm, 'r> {
     // Refuses with 9 to 11 at a token. The state that takes it is off the stack, which is then, where IF may come, one deeper than IFs
