@@ -23,6 +23,19 @@ pub trait Arithmetic {
 
     ghost words: { Words };
 
+    // The two constants once more, by functions: a caller has no contract of a constant. A type may write its own in their place.
+    fn low() -> i32
+        ensures { result ≡ words.lowest }
+    {
+        Self::LOWEST
+    }
+
+    fn high() -> i32
+        ensures { result ≡ words.highest }
+    {
+        Self::HIGHEST
+    }
+
     // The word that a number is fitted to.
     fn fit(n: i64) -> i32
         ensures { result ≡ words.fit n };

@@ -1,5 +1,5 @@
 -- How many digits a number has, and that its last digits, as many as it has, are all of them.
-use Rattle.std.proofs.Common.{◌≡◌, ℕ, zero, suc, ◌+◌, ◌*◌, ◌/◌, ◌%◌, ◌^◌, ◌<◌, ◌≤◌, [], ◌∷◌, ◌++◌, length, max, sym, ap, ◌∙◌, inl, inr, arith, length-append}
+use Rattle.std.proofs.Common.{◌≡◌, ℕ, zero, suc, ◌+◌, ◌*◌, ◌/◌, ◌%◌, ◌^◌, ◌<◌, ◌≤◌, [], ◌∷◌, ◌++◌, length, sym, ap, ◌∙◌, inl, inr, arith, length-append}
 use Rattle.std.proofs.Math.Nat.{one-le-pow, pow-succ'}
 use Rattle.std.proofs.lemmas.Fmt.{decimal_digit, decimal_step, decimal_nonempty}
 use Rattle.std.proofs.lemmas.Bool.Decides.{leb_tells}
@@ -11,19 +11,13 @@ one_digit n h = ap length (decimal_digit n h)
 pub more_digits : (n : ℕ) → 10 ≤ n → n < 2 ^ 64 → length (decimal n) ≡ suc (length (decimal (n / 10)))
 more_digits n h f = ap length (decimal_step n h f) ∙ length-append (decimal (n / 10)) ((48 + n % 10) ∷ []) ∙ omega arith
 
--- a number from 10 ^ k on and below ten times that has k + 1 digits
-digits_between : (k n : ℕ) → 10 ^ k ≤ n → n < 10 * 10 ^ k → n < 2 ^ 64 → length (decimal n) ≡ suc k
+-- a number from 10 ^ k on and below ten times that has k + 1 digits: so a logarithm tells how many it has
+pub digits_between : (k n : ℕ) → 10 ^ k ≤ n → n < 10 * 10 ^ k → n < 2 ^ 64 → length (decimal n) ≡ suc k
 digits_between zero n lo hi f = one_digit n (omega arith)
 digits_between (suc k) n lo hi f =
     let e = pow-succ' 10 k in
     let p = one-le-pow k 10 (omega arith) in
     more_digits n (omega (arith, e, p, lo)) f ∙ ap suc (digits_between k (n / 10) (omega (arith, e, lo)) (omega (arith, e, hi)) (omega arith))
-
--- so a logarithm tells how many digits a number has, where 0 goes by 1
-pub digits_by_log : (n k : ℕ) → 10 ^ k ≤ max n 1 → max n 1 < 10 * 10 ^ k → n < 2 ^ 64 → length (decimal n) ≡ k + 1
-digits_by_log zero zero lo hi f = one_digit 0 (omega arith)
-digits_by_log zero (suc k) lo hi f = let e = pow-succ' 10 k in let p = one-le-pow k 10 (omega arith) in absurd (omega (arith, e, p, lo))
-digits_by_log (suc n) k lo hi f = digits_between k (suc n) (omega (arith, lo)) (omega (arith, hi)) f ∙ omega arith
 
 pub all_digits : (k n : ℕ) → n < 2 ^ 64 → length (decimal n) ≡ suc k → last_digits (suc k) n ≡ decimal n
 unfolding last_digits

@@ -5,12 +5,13 @@ ghost use Rattle.std.specs.Prelude.{◌≡◌, ◌+◌, ◌-◌, ◌<◌, ◌≤
 ghost use Rattle.decimal.specs.Digits.{decimal, signed, last_digits, written};
 
 // How many digits a number has; 0 has one.
-#[tactic(auto, using(crate::proofs::Lasts::digits_by_log))]
+#[tactic(auto, using(crate::proofs::Lasts::one_digit, crate::proofs::Lasts::digits_between))]
 fn digits(n: u32) -> usize
     ensures value { result ≡ length (decimal n) }
     ensures bound { (1 ≤ result) × (result ≤ 10) }
 {
-    n.max(1).ilog10() as usize + 1
+    // One digit is told without a logarithm, which takes longer.
+    if n < 10 { 1 } else { n.ilog10() as usize + 1 }
 }
 
 // How many bytes a number takes in plain decimals.

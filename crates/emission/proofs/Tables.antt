@@ -33,7 +33,7 @@ class_at [] (suc c) = refl
 class_at (t ∷ ts) zero = refl
 class_at (t ∷ ts) (suc c) = class_at ts c
 
-entry_right : (s : State) (c : ℕ) → c < 26 → by_letter (get_or (get_or letters (state_number s) []) c 0) ≡ class_move s c
+pub entry_right : (s : State) (c : ℕ) → c < 26 → by_letter (get_or (get_or letters (state_number s) []) c 0) ≡ class_move s c
 unfolding row
 entry_right s c h =
     let l : c < length (row s) = omega (arith, row_length s) in
@@ -43,7 +43,7 @@ entry_right s c h =
     ∙ ap (move s) (class_at samples c)
 
 -- a class above 25 is as 25
-as_25 : (s : State) (c : ℕ) → class_move s (min c 25) ≡ class_move s c
+pub as_25 : (s : State) (c : ℕ) → class_move s (min c 25) ≡ class_move s c
 as_25 s c =
     elim (cases_lt c 26) [
       | inl h ↦ let m : min c 25 ≡ c = omega arith in ap (class_move s) m

@@ -11,7 +11,7 @@ use std::fmt;
 #[derive(Clone, Copy, PartialEq, Eq, Debug)]
 pub enum Refusal {
     // Lent memory is shorter than the call needs.
-    ShortMemory = 1,
+    ShortMemory,
     // A text is longer than 32,768 bytes.
     LongText,
     // No program begins with the tokens up to this place.
@@ -55,7 +55,7 @@ impl Refusal {
     pub fn number(self) -> u8
         ensures { result ≡ numbered self }
     {
-        self as u8
+        self as u8 + 1
     }
 }
 

@@ -24,6 +24,8 @@ fn wrapped_words() -> Result<(), Fail> {
     all_equal(&[
         (Wrapped::LOWEST, LOW),
         (Wrapped::HIGHEST, HIGH),
+        (Wrapped::low(), -2_147_483_648),
+        (Wrapped::high(), 2_147_483_647),
         (sum::<Wrapped>(HIGH, 1), LOW),
         (difference::<Wrapped>(LOW, 1), HIGH),
         (product::<Wrapped>(65_536, 65_536), 0),
@@ -39,6 +41,8 @@ fn ledger_words() -> Result<(), Fail> {
     all_equal(&[
         (Ledger::LOWEST, -99_999_999),
         (Ledger::HIGHEST, 99_999_999),
+        (Ledger::low(), -99_999_999),
+        (Ledger::high(), 99_999_999),
         (sum::<Ledger>(99_999_999, 1), 99_999_999),
         (sum::<Ledger>(99_999_998, 1), 99_999_999),
         (difference::<Ledger>(-99_999_999, 1), -99_999_999),

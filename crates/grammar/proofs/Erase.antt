@@ -4,7 +4,7 @@ use mathlib.Core.Option.{Option, none, some, map}
 use Rattle.token.specs.Tokens.{Token}
 use Rattle.grammar.specs.Tests.{is, is_name, is_number, spelling}
 use Rattle.grammar.specs.Concrete.{Sum, sole, then, Statement, label, nil, set, jump, pick, read_none, read_some, print_none, print_some, test, Statements}
-use Rattle.grammar.specs.Machine.{InCommands, first_command, after_commands, under_label, then_part, else_part, InCommand, of_assign, of_left, of_right, of_print, of_prints, of_group, Config, start, labelling, let_word, let_name, go_word, to_word, to_name, of_word, of_names, of_comma, read_word, read_names, read_comma, print_word, operand, after, done, Rows, stop, on, at_name, at_number, choose, whole_of, finish, leave, rows, go_on, run, begun}
+use Rattle.grammar.specs.Machine.{InCommands, first_command, after_commands, under_label, then_part, else_part, InCommand, of_assign, of_left, of_right, of_print, of_prints, of_group, Config, start, labelling, let_word, let_name, go_word, to_word, to_name, of_word, of_names, of_comma, read_word, read_names, read_comma, print_word, operand, after, done, Rows, stop, on, at_name, at_number, choose, whole_of, finish, leave, rows, step, go_on, run, begun}
 use Rattle.grammar.specs.Recogniser.{State, Next, Start, Label, LetWord, LetName, GoWord, ToWord, ToName, OfWord, OfNames, OfComma, ReadWord, ReadNames, ReadComma, PrintWord, PrintList, LeftSide, RightSide, ThenPart, Operand, AfterOperand, Group, stack_rows, reach, accepting}
 
 module _ {C D : Type 0} (f : C → D) where
@@ -101,6 +101,9 @@ rows_erase (done cs) = refl
 
 pub reach_is : (ts : List Token) → reach ts ≡ map erase (run begun ts)
 reach_is ts = run_map erase rows stack_rows rows_erase (some begun) ts
+
+pub step_is : (c : Config) (t : Token) → choose (stack_rows (erase c)) t ≡ map erase (step c t)
+step_is c t = ap (λ x. choose x t) (sym (rows_erase c)) ∙ choose_map erase (rows c) t
 
 pub accepting_is : (c : Config) → T (accepting (some (erase c))) → (cs : Statements) × (c ≡ done cs)
 accepting_is c h = grind arith
