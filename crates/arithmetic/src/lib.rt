@@ -23,7 +23,8 @@ pub trait Arithmetic {
 
     ghost words: { Words };
 
-    // The two constants once more, by functions: a caller has no contract of a constant. A type may write its own in their place.
+    // The two constants once more, by functions: that a constant is the bound of `words` is a law to cite, and here it is a clause.
+    // A type may write its own in their place.
     fn low() -> i32
         ensures { result ≡ words.lowest }
     {
